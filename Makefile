@@ -1,0 +1,12 @@
+PREFIX ?= /usr/local
+
+.PHONY: build test install
+
+build:
+	./gds my.dat VERSION >/dev/null
+
+test:
+	.ci/run
+
+install: build
+	install -D -m 755 crates/gds_cli/out/gds_cli $(DESTDIR)$(PREFIX)/bin/gds

@@ -1,0 +1,4 @@
+pub mod Fields
+pub mod Block
+pub mod Record
+pub mod View

@@ -1,0 +1,2 @@
+mod HeaderRead
+mod Answering

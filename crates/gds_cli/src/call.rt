@@ -1,0 +1,113 @@
+ghost use Rattle.std.specs.Prelude.{◌≡◌, ◌≢◌, ◌⊎◌, false, Some, map, string_bytes, IfSome};
+ghost use Rattle.host_model.specs.Faults.{NeverFell, NoneRose, Rose, counted};
+ghost use Rattle.host_model.specs.Told.{GoesOn};
+ghost use Rattle.host_model.specs.Files.{saying};
+ghost use Rattle.gds_cli.specs.Words.{command_of};
+ghost use Rattle.gds_cli.specs.Answer.{reply_of, header_reply, is_break, Answers, MayEnd};
+ghost use Rattle.gds_header.specs.Kinds.{ending_kind};
+
+use crate::header::{Unread, ending_kind};
+use crate::status::Status;
+use crate::words::{BadWords, Command, read_words};
+use host_model::{Host, Source};
+use std::alloc::Global;
+
+/// How a call ended, with what it was given.
+#[derive(Drop)]
+pub struct Ended<H: Host, I: Source> {
+    pub status: Status,
+    pub host: H,
+    pub input: I,
+}
+
+/// Does what the words ask for on the host's files, says the answer, and hands host and input back.
+pub fn gds<H: Host, I: Source>(
+    alloc: Global,
+    words: &[String],
+    mut host: H,
+    input: I,
+) -> Ended<H, I>
+    // Over a host that tells: the reply is said, or a front of it where a fault or want of memory came.
+    // Both files stay.
+    ensures told { GoesOn (H.told host) (H.told result.host) (λ before after.
+        Answers (reply_of (command_of (map string_bytes words.now)) before.db) result.status before after) }
+    // Where no fault came either, the whole reply is said, or memory ran out.
+    ensures complete { NoneRose (H.faults host) (H.faults result.host) → IfSome (H.told host) (λ before.
+        let reply = reply_of (command_of (map string_bytes words.now)) before.db in
+        (result.status ≡ Status.Memory)
+        ⊎ ((result.status ≡ reply.status) × (H.told result.host ≡ Some (saying before reply.text)))) }
+
+    // Over any host.
+    ensures status { MayEnd (command_of (map string_bytes words.now)) result.status }
+    ensures read_fault { result.status ≡ Status.ReadFault → Rose (H.faults host).read (H.faults result.host).read }
+    ensures say_fault { result.status ≡ Status.SayFault → Rose (H.faults host).say (H.faults result.host).say }
+    ensures faults { NeverFell (H.faults host) (H.faults result.host) }
+    // But for a check of the file a call asks the host for its saying alone.
+    ensures one_call { command_of (map string_bytes words.now) ≢ Ok Command.Integ → result.status ≢ Status.Memory
+        → H.moment result.host ≡ counted (H.moment host) }
+    ensures input { result.input ≡ input }
+{
+    let status = answer(alloc, words, &mut host);
+    Ended {
+        status,
+        host,
+        input,
+    }
+}
+
+/// Does what the words ask for, and says the answer.
+fn answer<H: Host>(alloc: Global, words: &[String], host: &mut H) -> Status
+    ensures told { GoesOn (H.told host.old) (H.told host.new) (λ before after.
+        Answers (reply_of (command_of (map string_bytes words.now)) before.db) result before after) }
+    ensures status { MayEnd (command_of (map string_bytes words.now)) result }
+    ensures read_fault { result ≡ Status.ReadFault → Rose (H.faults host.old).read (H.faults host.new).read }
+    ensures say_fault { result ≡ Status.SayFault → Rose (H.faults host.old).say (H.faults host.new).say }
+    ensures faults { NeverFell (H.faults host.old) (H.faults host.new) }
+    ensures one_call { command_of (map string_bytes words.now) ≢ Ok Command.Integ → result ≢ Status.Memory
+        → H.moment host.new ≡ counted (H.moment host.old) }
+{
+    match read_words(words) {
+        Ok(Command::Version) => say(host, "GDSPROF1\n", Status::Done),
+        Ok(Command::Integ) => integ(alloc, host),
+        Err(BadWords { place }) => match format!(in alloc; "BADWORDS {place}\n") {
+            Ok(text) => say(host, text.as_str(), Status::BadWords),
+            Err(_) => Status::Memory,
+        },
+    }
+}
+
+/// Finds the header kind that ends the reading of the database file, and says it.
+fn integ<H: Host>(alloc: Global, host: &mut H) -> Status
+    ensures told { GoesOn (H.told host.old) (H.told host.new) (λ before after.
+        Answers (header_reply (ending_kind before.db)) result before after) }
+    ensures status { MayEnd (Ok Command.Integ) result }
+    ensures read_fault { result ≡ Status.ReadFault → Rose (H.faults host.old).read (H.faults host.new).read }
+    ensures say_fault { result ≡ Status.SayFault → Rose (H.faults host.old).say (H.faults host.new).say }
+    ensures faults { NeverFell (H.faults host.old) (H.faults host.new) }
+{
+    match ending_kind(host) {
+        Ok(Some(kind)) => match format!(in alloc; "{} file\nFAULTS 1\n", kind.name()) {
+            Ok(text) => say(host, text.as_str(), Status::Unsound),
+            Err(_) => Status::Memory,
+        },
+        Ok(None) => say(host, "NOTBUILT\n", Status::NotBuilt),
+        Err(Unread::Failed) => Status::ReadFault,
+        Err(Unread::Changed) => say(host, "CHANGED 0\n", Status::Changed),
+    }
+}
+
+/// Says an answer. Its status is that of the call, unless the device fails.
+fn say<H: Host>(host: &mut H, text: &str, status: Status) -> Status
+    requires { is_break status ≡ false }
+    ensures told { GoesOn (H.told host.old) (H.told host.new)
+        (Answers (record { text = text.now; status = status }) result) }
+    ensures status { (result ≡ status) ⊎ (result ≡ Status.SayFault) }
+    ensures fault { result ≡ Status.SayFault → Rose (H.faults host.old).say (H.faults host.new).say }
+    ensures faults { NeverFell (H.faults host.old) (H.faults host.new) }
+    ensures clock { H.moment host.new ≡ counted (H.moment host.old) }
+{
+    match host.say(text.as_bytes()) {
+        Ok(()) => status,
+        Err(_) => Status::SayFault,
+    }
+}

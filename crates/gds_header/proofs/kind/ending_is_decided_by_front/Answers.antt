@@ -1,0 +1,5 @@
+use Rattle.gds_header.proofs.Ending.{ending_kind-front}
+use Rattle.gds_header.proofs.kind.ending_is_decided_by_front.Goals as goal
+
+pub returns : goal.returns
+returns c = ending_kind-front

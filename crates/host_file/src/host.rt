@@ -1,0 +1,127 @@
+ghost use Rattle.std.specs.Prelude.{◌≡◌, ◌≤◌, length, is_ok, Ok, IsErr, IfOk, IfSome, OnErr, MatchResult};
+ghost use Rattle.host_model.specs.Faults.{NeverFell, Rose, counted};
+ghost use Rattle.host_model.specs.Files.{Reads, file_of};
+ghost use Rattle.host_file.specs.System.{untold, new_host, after_read, after_say};
+
+use super::place::Place;
+use host_model::{FileNo, Host, HostFailed};
+use std::alloc::{AllocError, Global};
+use std::io;
+use std::marker::Model;
+use std::rt::Files;
+
+/// A host over the file at a path, the file of before images beside it, and standard output.
+///
+/// The file of before images has the same path with `.bi` at its end. A missing file has the length 0. A path
+/// that leads to what is no regular file, as a directory, fails each read.
+#[derive(Drop)]
+pub struct FileHost<'r, R: Files + Print> {
+    rt: &'r R,
+    db: Place<R::File>,
+    images: Place<R::File>,
+    clock: u64,
+    read_faults: u64,
+    say_faults: u64,
+}
+
+impl<'r, R: Files + Print> Model for FileHost<'r, R> {
+    ghost use Rattle.std.specs.Prelude.{string_bytes};
+    ghost use Rattle.host_file.specs.System.{SystemHost};
+
+    ghost Value = { SystemHost };
+
+    ghost view = { λ host. record {
+      db_path = string_bytes host.db.path;
+      images_path = string_bytes host.images.path;
+      moment = host.clock;
+      faults = record { read = host.read_faults; write = 0; say = host.say_faults };
+    } };
+}
+
+impl<'r, R: Files + Print> FileHost<'r, R> {
+    /// A host over the files at this path. No file is opened yet.
+    pub fn new(rt: &'r R, alloc: Global, path: &str) -> Result<FileHost<'r, R>, AllocError>
+        ensures { IfOk result (λ host. host ≡ new_host path.now) }
+    {
+        let db = String::from_str(alloc, path)?;
+        let mut images = String::from_str(alloc, path)?;
+        images.push_str(".bi")?;
+        Ok(FileHost {
+            rt,
+            db: Place::new(db),
+            images: Place::new(images),
+            clock: 0,
+            read_faults: 0,
+            say_faults: 0,
+        })
+    }
+
+    /// Counts a read, and that it failed where it did.
+    fn end_read<T: Drop>(&mut self, outcome: io::Result<T>) -> Result<T, HostFailed>
+        ensures outcome { MatchResult outcome (λ value. result ≡ Ok value) (λ _. IsErr result) }
+        ensures counts { self.new ≡ after_read (is_ok result) self.old }
+        ensures faults { NeverFell self.old.faults self.new.faults }
+    {
+        self.clock = self.clock.saturating_add(1);
+        match outcome {
+            Ok(value) => Ok(value),
+            Err(_) => {
+                self.read_faults = self.read_faults.saturating_add(1);
+                Err(HostFailed)
+            }
+        }
+    }
+}
+
+impl<'r, R: Files + Print> Host for FileHost<'r, R> {
+    ghost told = { λ _. untold };
+
+    ghost moment = { λ host. host.moment };
+
+    ghost faults = { λ host. host.faults };
+
+    fn len(&mut self, file: FileNo) -> Result<u64, HostFailed>
+        ensures length { IfOk result (λ n. IfSome untold (λ c. n ≡ length (file_of c file))) }
+        ensures clock { self.new.moment ≡ counted self.old.moment }
+        ensures faults { NeverFell self.old.faults self.new.faults }
+        ensures failed { OnErr result (Rose self.old.faults.read self.new.faults.read) }
+        ensures counts { self.new ≡ after_read (is_ok result) self.old }
+    {
+        let rt = self.rt;
+        let outcome = match file {
+            FileNo::Db => self.db.len(rt),
+            FileNo::Images => self.images.len(rt),
+        };
+        self.end_read(outcome)
+    }
+
+    fn read(&mut self, file: FileNo, at: u64, out: &mut [u8]) -> Result<usize, HostFailed>
+        ensures count { IfOk result (λ n. n ≤ length out.old) }
+        ensures bytes { IfOk result (λ n. IfSome untold (λ c. Reads (file_of c file) at out.old out.new n)) }
+        ensures clock { self.new.moment ≡ counted self.old.moment }
+        ensures faults { NeverFell self.old.faults self.new.faults }
+        ensures failed { OnErr result (Rose self.old.faults.read self.new.faults.read) }
+        ensures counts { self.new ≡ after_read (is_ok result) self.old }
+    {
+        let rt = self.rt;
+        let outcome = match file {
+            FileNo::Db => self.db.read(rt, at, out),
+            FileNo::Images => self.images.read(rt, at, out),
+        };
+        self.end_read(outcome)
+    }
+
+    fn say(&mut self, bytes: &[u8]) -> Result<(), HostFailed>
+        ensures clock { self.new.moment ≡ counted self.old.moment }
+        ensures faults { NeverFell self.old.faults self.new.faults }
+        ensures failed { OnErr result (Rose self.old.faults.say self.new.faults.say) }
+        ensures counts { self.new ≡ after_say (is_ok result) self.old }
+    {
+        self.clock = self.clock.saturating_add(1);
+        if self.rt.write_all(bytes).is_err() {
+            self.say_faults = self.say_faults.saturating_add(1);
+            return Err(HostFailed);
+        }
+        Ok(())
+    }
+}

@@ -1,0 +1,62 @@
+ghost use Rattle.std.specs.Prelude.{◌≡◌, ◌<◌, ◌≤◌, length, is_ok, IfOk, OnErr, if◌then◌else◌};
+ghost use Rattle.host_model.specs.Faults.{Rose, counted};
+ghost use Rattle.host_model.specs.Told.{GoesOn};
+ghost use Rattle.host_model.specs.Files.{Gives};
+ghost use Rattle.host_file.specs.System.{untold_left};
+
+use host_model::{Source, SourceFailed};
+use std::io::Read;
+use std::marker::{Model, PhantomData};
+
+/// A source over standard input, with one read a take.
+#[derive(Drop)]
+pub struct StdinSource<'r, R: Input> {
+    reader: R::Reader,
+    faults: u64,
+    runtime: PhantomData<&'r R>,
+}
+
+impl<'r, R: Input> Model for StdinSource<'r, R> {
+    ghost use Rattle.std.specs.Prelude.{ℕ};
+
+    ghost Value = { ℕ };
+
+    ghost view = { λ source. source.faults };
+}
+
+impl<'r, R: Input> StdinSource<'r, R> {
+    /// A source over standard input, of which nothing is read yet.
+    pub fn new(rt: &'r R) -> StdinSource<'r, R>
+        ensures { result ≡ 0 }
+    {
+        StdinSource {
+            reader: rt.reader(),
+            faults: 0,
+            runtime: PhantomData,
+        }
+    }
+}
+
+impl<'r, R: Input> Source for StdinSource<'r, R> {
+    ghost left = { λ _. untold_left };
+
+    ghost faults = { λ source. source };
+
+    fn take(&mut self, out: &mut [u8]) -> Result<usize, SourceFailed>
+        requires { 0 < length out.old }
+        ensures count { IfOk result (λ n. n ≤ length out.old) }
+        ensures given { IfOk result (λ n. GoesOn untold_left untold_left (Gives out.new n)) }
+        ensures kept { OnErr result (untold_left ≡ untold_left) }
+        ensures faults { self.old ≤ self.new }
+        ensures failed { OnErr result (Rose self.old self.new) }
+        ensures counts { self.new ≡ (if is_ok result then self.old else counted self.old) }
+    {
+        match self.reader.read(out) {
+            Ok(count) => Ok(count),
+            Err(_) => {
+                self.faults = self.faults.saturating_add(1);
+                Err(SourceFailed)
+            }
+        }
+    }
+}

@@ -1,0 +1,102 @@
+use super::place::read_full;
+use super::*;
+use host_model::{FileNo, Host, HostFailed, Source};
+use std::alloc::Allocator;
+use std::io::{BufRead, ErrorKind, Lines, Read};
+use std::test::Fail;
+use std::{env, fs, io, process};
+
+/// A path in the directory of temporary files that no other process uses.
+fn own_path(rt: &HostRuntime) -> Result<String, Fail> {
+    let dir = env::temp_dir(rt)?;
+    let dir = dir.display();
+    let process = process::id(rt.process());
+    Ok(format!(in rt.alloc(); "{dir}/host_file.{process}")?)
+}
+
+#[test]
+fn reads_files(rt: HostRuntime) -> Result<(), Fail> {
+    let path = own_path(&rt)?;
+    fs::write(&rt, path.as_str(), b"0123456789".as_slice())?;
+    let mut host = FileHost::new(&rt, rt.alloc(), path.as_str())?;
+    let mut out = [b'.'; 4];
+    let length = host.len(FileNo::Db);
+    let inside = host.read(FileNo::Db, 3, &mut out);
+    let at_end = host.read(FileNo::Db, 8, &mut out);
+    let past = host.read(FileNo::Db, u64::MAX, &mut out);
+    let missing = host.len(FileNo::Images);
+    let nothing = host.read(FileNo::Images, 0, &mut out);
+    fs::remove_file(&rt, path.as_str())?;
+    assert_eq!(rt; length, Ok(10));
+    assert_eq!(rt; inside, Ok(4));
+    assert_eq!(rt; at_end, Ok(2));
+    assert_eq!(rt; out, *b"8956");
+    assert_eq!(rt; past, Ok(0));
+    assert_eq!(rt; missing, Ok(0));
+    assert_eq!(rt; nothing, Ok(0));
+    assert_eq!(rt; host.say(b"said\n"), Ok(()));
+    Ok(())
+}
+
+#[test]
+fn fails_on_a_directory(rt: HostRuntime) -> Result<(), Fail> {
+    let mut host = FileHost::new(&rt, rt.alloc(), "/")?;
+    let mut out = [b'.'; 4];
+    assert_eq!(rt; host.len(FileNo::Db), Err(HostFailed));
+    assert_eq!(rt; host.read(FileNo::Db, 0, &mut out), Err(HostFailed));
+    Ok(())
+}
+
+/// A reader that fails.
+#[derive(Drop)]
+struct Broken;
+
+impl Read for Broken {
+    fn read(&mut self, _buf: &mut [u8]) -> io::Result<usize> {
+        Err(io::Error::from(ErrorKind::BrokenPipe))
+    }
+}
+
+#[test]
+fn goes_on_after_a_short_read(rt: HostRuntime) -> Result<(), Fail> {
+    let mut reader = b"abc".as_slice().chain(b"defg".as_slice());
+    let mut out = [b'.'; 5];
+    assert_eq!(rt; read_full(&mut reader, &mut out)?, 5);
+    assert_eq!(rt; out, *b"abcde");
+    assert_eq!(rt; read_full(&mut reader, &mut out)?, 2);
+    assert_eq!(rt; out, *b"fgcde");
+    let mut reader = b"abc".as_slice().chain(Broken);
+    assert!(rt; read_full(&mut reader, &mut out).is_err());
+    Ok(())
+}
+
+/// A standard input that holds these bytes.
+struct Typed(&'static [u8]);
+
+impl Input for Typed {
+    type Reader = &'static [u8];
+
+    fn read_line<A: Allocator + Clone>(&self, _buf: &mut String<A>) -> io::Result<usize> {
+        Err(io::Error::from(ErrorKind::Unsupported))
+    }
+
+    fn lines<A: Allocator>(&self, alloc: A) -> Lines<&'static [u8], A> {
+        self.0.lines(alloc)
+    }
+
+    fn reader(&self) -> &'static [u8] {
+        self.0
+    }
+}
+
+#[test]
+fn takes_the_input(rt: HostRuntime) -> Result<(), Fail> {
+    let mut source = StdinSource::new(&Typed(b"typed"));
+    let mut out = [b'.'; 4];
+    assert_eq!(rt; source.take(&mut out), Ok(4));
+    assert_eq!(rt; out, *b"type");
+    assert_eq!(rt; source.take(&mut out), Ok(1));
+    assert_eq!(rt; out, *b"dype");
+    assert_eq!(rt; source.take(&mut out), Ok(0));
+    Ok(())
+}

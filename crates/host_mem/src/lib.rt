@@ -1,0 +1,17 @@
+//! Hosts and a source in memory, that tell all they hold.
+#![tactic(auto)]
+
+mod call;
+mod host;
+mod log;
+mod memory;
+mod source;
+mod sure;
+
+pub use call::Call;
+pub use host::MemHost;
+pub use source::MemSource;
+pub use sure::SureHost;
+
+#[cfg(test)]
+mod tests;
