@@ -1,0 +1,5 @@
+pub mod Reading
+pub mod Comparing
+pub mod Packing
+pub mod Made
+pub mod Valuing

@@ -1,0 +1,7 @@
+pub mod Numeral
+pub mod Text
+pub mod Bytes
+pub mod Packed
+pub mod Order
+pub mod Value
+pub mod Seen

@@ -1,0 +1,16 @@
+//! M's canonical numbers: their texts and their bytes in keys, both ways, and their order.
+#![tactic(auto)]
+
+mod bytes;
+mod digits;
+mod laws;
+mod number;
+#[cfg(test)]
+mod tests;
+mod text;
+
+pub use bytes::{decode, encode};
+pub use digits::Digits;
+pub use laws::{byte_bounds, one_encoding, one_text, order, order_by_value, text_bound};
+pub use number::Number;
+pub use text::{parse_canonical, print};
