@@ -56,6 +56,10 @@ AreRecords level offset left (r ∷ rs) =
     IsTrue (is_well_sized level left) × (r ≡ first_record offset left)
     × AreRecords level (offset + size_of left) (drop (size_of left) left) rs
 
+-- these are the records of the block
+abbrev pub AreRecordsOf : List ℕ → List Record → Type 0
+AreRecordsOf block rs = AreRecords (level_of block) 16 (bytes_left block 16) rs
+
 -- The record stands in the block at its offset, behind the head and within the used bytes: the block has
 -- its size there, its count behind that, and its body behind both.
 pub record StandsIn (block : List ℕ) (r : Record) : Type 0 where

@@ -1,6 +1,6 @@
-ghost use Rattle.std.specs.Prelude.{◌≡◌, ◌<◌, ◌^◌, All, length, SomeIff};
+ghost use Rattle.std.specs.Prelude.{◌≡◌, ◌<◌, ◌^◌, List, All, length, SomeIff};
 ghost use Rattle.gds_block.specs.Block.{version_of, reserved_of, level_of, used_of, tn_of, IsBlock};
-ghost use Rattle.gds_block.specs.Record.{records_of, AreRecords, StandsIn, bytes_left};
+ghost use Rattle.gds_block.specs.Record.{Record, records_of, AreRecordsOf, StandsIn};
 
 use crate::fields::{u16_at, u32_at, u64_at};
 use crate::records::Records;
@@ -78,8 +78,9 @@ impl<'a> BlockView<'a> {
     /// The records from offset 16 on, up to the first that isn't well-sized or to the used count.
     pub fn records(&self) -> Records<'a>
         ensures listed { result ≡ records_of self.now }
-        // Nothing well-sized stands behind the last of them.
-        ensures longest { AreRecords (level_of self.now) 16 (bytes_left self.now 16) result }
+        // Nothing well-sized stands behind the last of them, and no other list is such.
+        ensures longest { AreRecordsOf self.now result }
+        ensures only { (others : List Record) → AreRecordsOf self.now others → others ≡ result }
         ensures placed { All (StandsIn self.now) result }
         ensures few { length result < 2 ^ 32 }
     {

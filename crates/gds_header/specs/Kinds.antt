@@ -81,7 +81,7 @@ holds image NoBlocks = (fields_of image).total == 0
 holds image BadLimit = not (keeps_limits (fields_of image))
 holds image ShortFile = nat_lt (length image) (image_length image)
 holds image LongFile = nat_lt (image_length image) (length image)
-holds image ReservedByte = list_any (λ b. not (b == 0)) (reserved_bytes image) || list_any (has_free (fields_of image)) (groups_past (fields_of image))
+holds image ReservedByte = let h = fields_of image in list_any (λ b. not (b == 0)) (reserved_bytes image) || list_any (has_free h) (groups_past h)
 holds image BadTransactionNumber = let h = fields_of image in h.tn == 0 || nat_lt (2 ^ 63) h.tn
 
 -- behind the kind no further one is asked
@@ -93,14 +93,16 @@ ends _ = true
 
 -- all kinds in their order
 abbrev pub kinds : List HeaderKind
-kinds = ShortHeader ∷ NotDatabase ∷ BlockSizeNotMultiple ∷ BlockSizeTooLarge ∷ NoBlocks ∷ BadLimit ∷ ShortFile ∷ LongFile ∷ ReservedByte ∷ BadTransactionNumber ∷ []
+kinds =
+    ShortHeader ∷ NotDatabase ∷ BlockSizeNotMultiple ∷ BlockSizeTooLarge ∷ NoBlocks ∷ BadLimit ∷ ShortFile
+    ∷ LongFile ∷ ReservedByte ∷ BadTransactionNumber ∷ []
 
 -- the front of a list up to the first that passes, that one included
 abbrev pub through_first : {A : Type 0} → (A → Bool) → List A → List A
 through_first test [] = []
 through_first test (x ∷ xs) = if test x then x ∷ [] else x ∷ through_first test xs
 
--- the faults of a file's header, and that which ended the reading
+-- the faults of a file's header, and that which ends the reading
 unfoldable pub header_faults : List ℕ → List HeaderKind
 header_faults image = through_first ends (filter (holds image) kinds)
 
@@ -123,6 +125,10 @@ abbrev pub ending_kind_of : ℕ → List ℕ → Option HeaderKind
 ending_kind_of len front =
     if nat_lt len 8192 then Some ShortHeader
     else option_or (unreadable front) (if nat_lt len (image_length front) then Some ShortFile else None)
+
+-- in each file that begins with these bytes this is what ends the reading
+abbrev pub EachFileEnds : List ℕ → (List ℕ → Option HeaderKind) → Type 0
+EachFileEnds front ending = (image : List ℕ) → take 8192 image ≡ front → ending_kind image ≡ ending image
 
 -- two laws: it is the same, and it is the file's one fault then
 abbrev pub IsDecidedByFront : Type 0

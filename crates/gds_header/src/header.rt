@@ -1,7 +1,7 @@
 ghost use Rattle.std.specs.Prelude.{◌≡◌, ◌≢◌, ℕ, ◌+◌, ◌<◌, ◌≤◌, List, ◌++◌, length, take, drop, IfOk, IfErr, Some, None, option_map, nat_lt, if◌then◌else◌};
 ghost use Rattle.gds_header.specs.Fields.{u32_at, u64_at, u32_bytes, u64_bytes, fields_of, file_length_of, header_bytes};
 ghost use Rattle.std.specs.Int.{bit_at};
-ghost use Rattle.gds_header.specs.Kinds.{kind_of, keeps_block_limits, keeps_record_limits, IsWithinLimits, unreadable, ending_kind, has_free};
+ghost use Rattle.gds_header.specs.Kinds.{kind_of, keeps_block_limits, keeps_record_limits, IsWithinLimits, EachFileEnds, unreadable, has_free};
 ghost use Rattle.gds_header.specs.declared.kind.HeaderKind.TheVariants.{ShortFile};
 
 use super::kind::HeaderFault;
@@ -10,6 +10,11 @@ use super::kind::HeaderFault;
 pub const HEADER_LENGTH: usize = 8192;
 
 const LABEL: [u8; 8] = *b"GDSPROF1";
+
+/// Each block size is a multiple of this, and at most the greatest.
+const BLOCK_SIZE_STEP: u32 = 512;
+
+const GREATEST_BLOCK_SIZE: u32 = 65_024;
 
 /// The fields of a file's header.
 #[derive(Clone, Copy, Debug, PartialEq, Eq)]
@@ -35,7 +40,8 @@ pub struct Header {
 }
 
 impl Header {
-    /// Reads the 8,192 bytes at the front of a file. The bytes that must be 0 may be anything.
+    /// Reads the 8,192 bytes at the front of a file. The bytes that must be 0 may be anything, and so may
+    /// the numbers that no limit is on: the count of free blocks and the transaction number.
     pub fn read(bytes: &[u8]) -> Result<Header, HeaderFault>
         requires { length bytes.now ≡ 8192 }
         ensures fields { IfOk result (λ h. h ≡ fields_of bytes.now) }
@@ -44,8 +50,9 @@ impl Header {
         ensures err { IfErr result (λ f. unreadable bytes.now ≡ Some (kind_of f)) }
 
         // What ends the reading of a file that begins with these bytes.
-        ensures file_ok { IfOk result (λ h. (image : List ℕ) → take 8192 image ≡ bytes.now → ending_kind image ≡ (if nat_lt (length image) (file_length_of h) then Some ShortFile else None)) }
-        ensures file_err { IfErr result (λ f. (image : List ℕ) → take 8192 image ≡ bytes.now → ending_kind image ≡ Some (kind_of f)) }
+        ensures file_ok { IfOk result (λ h. EachFileEnds bytes.now (λ image.
+            if nat_lt (length image) (file_length_of h) then Some ShortFile else None)) }
+        ensures file_err { IfErr result (λ f. EachFileEnds bytes.now (λ _. Some (kind_of f))) }
     {
         let header = Header::fields(bytes);
         match header.fault(bytes) {
@@ -54,7 +61,7 @@ impl Header {
         }
     }
 
-    /// Writes the 8,192 bytes at the front of a file.
+    /// Writes the 8,192 bytes at the front of a file. Those of a header within the limits are read again.
     pub fn write(&self, out: &mut [u8])
         requires { length out.old ≡ 8192 }
         ensures bytes { out.new ≡ header_bytes self.now }
@@ -97,7 +104,7 @@ impl Header {
     pub fn file_length(&self) -> u64
         ensures { result ≡ file_length_of self.now }
     {
-        8192 + u64::from(self.total) * u64::from(self.block_size)
+        HEADER_LENGTH as u64 + u64::from(self.total) * u64::from(self.block_size)
     }
 
     fn fields(bytes: &[u8]) -> Header
@@ -126,9 +133,9 @@ impl Header {
     {
         if !bytes.starts_with(&LABEL) {
             Some(HeaderFault::NotDb)
-        } else if self.block_size == 0 || self.block_size % 512 != 0 {
+        } else if self.block_size == 0 || self.block_size % BLOCK_SIZE_STEP != 0 {
             Some(HeaderFault::NotMultiple)
-        } else if self.block_size > 65_024 {
+        } else if self.block_size > GREATEST_BLOCK_SIZE {
             Some(HeaderFault::TooLarge)
         } else if self.total == 0 {
             Some(HeaderFault::NoTotal)

@@ -1,8 +1,8 @@
-use Rattle.std.proofs.Common.{◌≡◌, ◌≤◌, ◌-◌, ℕ, List, length, take, drop, subst, ap, arith, length-take}
+use Rattle.std.proofs.Common.{sym, ◌∙◌, ◌≡◌, ◌≤◌, ◌-◌, ℕ, List, length, take, drop, subst, ap, arith, length-take}
 use Rattle.std.proofs.lemmas.Slice.{between_is}
 use Rattle.gds_block.specs.Block.{level_of, used_of}
 use Rattle.gds_block.specs.Record.{bytes_left, records_of}
-use Rattle.gds_block.proofs.RecordLaws.{AreRecords-records_from}
+use Rattle.gds_block.proofs.RecordLaws.{AreRecords-records_from, records_from-unique}
 use Rattle.gds_block.proofs.PlaceLaws.{All-records_of, few_records}
 use Rattle.gds_block.proofs.view.BlockView.records.Goals as goal
 
@@ -14,6 +14,9 @@ returns-clause-listed c = listed c
 
 pub returns-clause-longest : goal.returns-clause-longest
 returns-clause-longest c = rw (listed c) (AreRecords-records_from (level_of c.args.self.now) 16 (bytes_left c.args.self.now 16))
+
+pub returns-clause-only : goal.returns-clause-only
+returns-clause-only c = λ others h. records_from-unique (level_of c.args.self.now) 16 (bytes_left c.args.self.now 16) others h ∙ sym (listed c)
 
 pub returns-clause-placed : goal.returns-clause-placed
 returns-clause-placed c =
