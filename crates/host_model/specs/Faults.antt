@@ -21,7 +21,7 @@ pub record NeverFell (before now : Faults) : Type 0 where
   pub write : before.write ≤ now.write
   pub say : before.say ≤ now.say
 
--- some count rose
+-- none of the counts rose
 pub record NoneRose (before now : Faults) : Type 0 where
   pub read : Rose before.read now.read → ⊥
   pub write : Rose before.write now.write → ⊥

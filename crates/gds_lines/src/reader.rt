@@ -1,0 +1,94 @@
+ghost use Rattle.std.specs.Prelude.{◌≡◌, false, IfOk, IfSome, IsFalse};
+ghost use Rattle.std.specs.Option.{option_copied};
+ghost use Rattle.std.specs.Borrow.{sem};
+ghost use Rattle.std.specs.Io.BufRead.{Rests};
+ghost use Rattle.host_model.specs.Told.{GoesOn};
+ghost use Rattle.gds_lines.specs.Lines.{next_line};
+ghost use Rattle.gds_lines.specs.Reading.{IsEnd, LineTaken};
+
+use crate::LinesError;
+use crate::ahead::Ahead;
+use crate::finding::find_line;
+use host_model::Source;
+use std::alloc::Global;
+use std::marker::Model;
+
+/// A reader of the lines of a source.
+#[derive(Drop)]
+pub struct Lines<I: Source> {
+    source: I,
+    ahead: Ahead,
+    taken: u64,
+    refused: bool,
+}
+
+impl<I: Source> Model for Lines<I> {
+    ghost use Rattle.std.specs.Prelude.{◌-◌, ◌≤◌, length, IsFalse};
+    ghost use Rattle.gds_lines.specs.declared.TheConstants.{INPUT_LIMIT};
+    ghost use Rattle.gds_lines.specs.Reading.{Reading};
+
+    ghost Value = { Reading };
+
+    ghost use Rattle.gds_lines.specs.Ahead.{held, text_left};
+
+    ghost view = { λ l. record {
+      left = text_left l.ahead (I.left l.source);
+      passed = l.taken - length (held l.ahead);
+      taken = l.taken;
+      refused = l.refused;
+      faults = I.faults l.source;
+    } };
+
+    ghost invariant = { λ l. (length (held l.ahead) ≤ l.taken)
+        × (IsFalse l.refused → l.taken ≤ INPUT_LIMIT) };
+}
+
+impl<I: Source> Lines<I> {
+    ghost use Rattle.gds_lines.specs.contracts.reader.Lines.{the_row};
+
+    /// A reader of the lines of what the source has left.
+    pub fn new(alloc: Global, source: I) -> Lines<I>
+        ensures { result ≡ record {
+          left = I.left source;
+          passed = 0;
+          taken = 0;
+          refused = false;
+          faults = I.faults source;
+        } }
+    {
+        Lines {
+            source,
+            ahead: Ahead::new(alloc),
+            taken: 0,
+            refused: false,
+        }
+    }
+
+    /// The next line of the text without its line end, or None at the end of the text. A line of more than
+    /// [`LINE_LIMIT`](crate::LINE_LIMIT) bytes is given as its first bytes, one more than the limit.
+    ///
+    /// After an error no further line may be asked for.
+    pub fn line(&mut self) -> Result<Option<&[u8]>, LinesError>
+        requires { IsFalse self.old.refused }
+        // Where the source tells its bytes, it is the first line of what was left.
+        ensures line { IfOk result
+            (λ line. IfSome self.old.left (λ text. option_copied line ≡ next_line text)) }
+        ensures* after { sem 𝓛 (Rests (the_row I.row I.Source) self.entry (LineTaken self.old result)) }
+    {
+        self.refused = true;
+        let found = find_line(&mut self.source, &mut self.ahead, &mut self.taken)?;
+        self.refused = false;
+        match found {
+            Some(span) => Ok(Some(self.ahead.part(span))),
+            None => Ok(None),
+        }
+    }
+
+    /// The source. Bytes that were taken from it and not given are lost.
+    pub fn into_source(self) -> I
+        ensures left { GoesOn self.left (I.left result) IsEnd }
+        ensures faults { I.faults result ≡ self.faults }
+    {
+        self.source
+    }
+}

@@ -1,0 +1,10 @@
+pub use Rattle.m_number.specs.Numeral
+pub use Rattle.m_number.specs.Text
+pub use Rattle.m_number.specs.Bytes
+pub use Rattle.m_number.specs.Order
+pub mod Node
+pub mod Key
+pub mod Collation
+pub mod Globals
+pub mod Seen
+pub mod Writing

@@ -1,0 +1,25 @@
+//! M's references, their keys, and the order in which both stand.
+#![tactic(auto)]
+
+mod collation;
+mod key;
+mod keys;
+mod laws;
+mod name;
+mod reading;
+mod reference;
+mod spelling;
+mod subscript;
+
+pub use collation::compare;
+pub use key::{Key, KeyTooLong};
+pub use keys::{key_len, key_of};
+pub use laws::{changes, descendants, no_key_begins_another, order, places};
+pub use name::Name;
+pub use reading::reference_of;
+pub use reference::{Reference, Subscripts};
+pub use spelling::{name_of, subscript_of};
+pub use subscript::{Subscript, Text};
+
+#[cfg(test)]
+mod tests;
