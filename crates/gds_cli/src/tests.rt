@@ -124,6 +124,15 @@ impl Host for Shrinking {
 
     ghost faults = { λ _. record { read = 0; write = 0; say = 0 } };
 
+    // Nothing is known of a crash, as if none could come.
+    ghost left_since = { λ _ t c. ⊥ };
+
+    ghost longer = { λ _ t u c le left. left };
+
+    ghost now_left = { λ _ c told. Prim.cc };
+
+    ghost said_stays = { λ _ now c told left. absurd left };
+
     fn len(&mut self, _file: FileNo) -> Result<u64, HostFailed> {
         self.clock = self.clock.saturating_add(1);
         Ok(8192)
@@ -132,6 +141,21 @@ impl Host for Shrinking {
     fn read(&mut self, _file: FileNo, _at: u64, _out: &mut [u8]) -> Result<usize, HostFailed> {
         self.clock = self.clock.saturating_add(1);
         Ok(0)
+    }
+
+    fn write_at(&mut self, _file: FileNo, _at: u64, _bytes: &[u8]) -> Result<(), HostFailed> {
+        self.clock = self.clock.saturating_add(1);
+        Ok(())
+    }
+
+    fn cut(&mut self, _file: FileNo, _len: u64) -> Result<(), HostFailed> {
+        self.clock = self.clock.saturating_add(1);
+        Ok(())
+    }
+
+    fn sync(&mut self, _file: FileNo) -> Result<(), HostFailed> {
+        self.clock = self.clock.saturating_add(1);
+        Ok(())
     }
 
     fn say(&mut self, bytes: &[u8]) -> Result<(), HostFailed> {

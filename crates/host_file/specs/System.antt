@@ -1,5 +1,5 @@
 -- What is known of a host and of a source over the system: paths and counts, and nothing of what they hold.
-use Rattle.std.specs.Prelude.{ℕ, Bool, if◌then◌else◌, List, ◌++◌, Option, None, codes}
+use Rattle.std.specs.Prelude.{ℕ, Bool, if◌then◌else◌, List, ◌++◌, Option, None, Some, ◌≡◌, codes}
 use Rattle.host_model.specs.Faults.{Faults, counted}
 use Rattle.host_model.specs.Files.{Contents}
 
@@ -9,6 +9,10 @@ untold = None
 
 abbrev pub untold_left : Option (List ℕ)
 untold_left = None
+
+-- what a crash may have left of real files: anything
+abbrev pub any_left : ℕ → Contents → Type 0
+any_left moment c = Unit {0}
 
 -- a host: the paths of its files, the number of its calls, and how often they failed
 pub record SystemHost : Type 0 where
@@ -39,3 +43,14 @@ after_say ok old = record old {
   moment = counted old.moment;
   faults = if ok then old.faults else record old.faults { say = counted old.faults.say };
 }
+
+-- the host after a write, a cut or a sync, by whether it succeeded
+abbrev pub after_write : Bool → SystemHost → SystemHost
+after_write ok old = record old {
+  moment = counted old.moment;
+  faults = if ok then old.faults else record old.faults { write = counted old.faults.write };
+}
+
+-- a host that tells nothing doesn't tell this
+pub tells_nothing : (now : Contents) → untold ≡ Some now → ⊥
+tells_nothing now e = cc

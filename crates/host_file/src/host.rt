@@ -1,7 +1,8 @@
-ghost use Rattle.std.specs.Prelude.{◌≡◌, ◌≤◌, length, is_ok, Ok, IsErr, IfOk, IfSome, OnErr, MatchResult};
+ghost use Rattle.std.specs.Prelude.{◌≡◌, ◌≤◌, length, is_ok, Ok, IsErr, IfOk, IfSome, OnOk, OnErr, MatchResult};
 ghost use Rattle.host_model.specs.Faults.{NeverFell, Rose, counted};
 ghost use Rattle.host_model.specs.Files.{Reads, file_of};
-ghost use Rattle.host_file.specs.System.{untold, new_host, after_read, after_say};
+ghost use Rattle.host_model.specs.Disk.{Changes, Cut, Elapses, Follows, SaysSome, Settles, Stays, Torn, during};
+ghost use Rattle.host_file.specs.System.{untold, any_left, tells_nothing, new_host, after_read, after_say, after_write};
 
 use super::place::Place;
 use host_model::{FileNo, Host, HostFailed};
@@ -21,6 +22,7 @@ pub struct FileHost<'r, R: Files + Print> {
     images: Place<R::File>,
     clock: u64,
     read_faults: u64,
+    write_faults: u64,
     say_faults: u64,
 }
 
@@ -34,7 +36,7 @@ impl<'r, R: Files + Print> Model for FileHost<'r, R> {
       db_path = string_bytes host.db.path;
       images_path = string_bytes host.images.path;
       moment = host.clock;
-      faults = record { read = host.read_faults; write = 0; say = host.say_faults };
+      faults = record { read = host.read_faults; write = host.write_faults; say = host.say_faults };
     } };
 }
 
@@ -52,8 +54,23 @@ impl<'r, R: Files + Print> FileHost<'r, R> {
             images: Place::new(images),
             clock: 0,
             read_faults: 0,
+            write_faults: 0,
             say_faults: 0,
         })
+    }
+
+    /// Counts a write, a cut or a sync, and that it failed where it did.
+    fn end_write(&mut self, outcome: io::Result<()>) -> Result<(), HostFailed>
+        ensures counts { self.new ≡ after_write (is_ok result) self.old }
+        ensures faults { NeverFell self.old.faults self.new.faults }
+        ensures clock { self.old.moment ≤ self.new.moment }
+    {
+        self.clock = self.clock.saturating_add(1);
+        if outcome.is_err() {
+            self.write_faults = self.write_faults.saturating_add(1);
+            return Err(HostFailed);
+        }
+        Ok(())
     }
 
     /// Counts a read, and that it failed where it did.
@@ -61,6 +78,7 @@ impl<'r, R: Files + Print> FileHost<'r, R> {
         ensures outcome { MatchResult outcome (λ value. result ≡ Ok value) (λ _. IsErr result) }
         ensures counts { self.new ≡ after_read (is_ok result) self.old }
         ensures faults { NeverFell self.old.faults self.new.faults }
+        ensures clock { self.old.moment ≤ self.new.moment }
     {
         self.clock = self.clock.saturating_add(1);
         match outcome {
@@ -80,8 +98,18 @@ impl<'r, R: Files + Print> Host for FileHost<'r, R> {
 
     ghost faults = { λ host. host.faults };
 
+    ghost left_since = { λ _. any_left };
+
+    ghost longer = { λ _ t u c le left. tt };
+
+    ghost now_left = { λ _ c told. tt };
+
+    ghost said_stays = { λ _ now c told left. absurd (tells_nothing now told) };
+
     fn len(&mut self, file: FileNo) -> Result<u64, HostFailed>
         ensures length { IfOk result (λ n. IfSome untold (λ c. n ≡ length (file_of c file))) }
+        ensures crash { Stays (any_left self.old.moment) (any_left self.new.moment) }
+        ensures time { Elapses self.old.moment self.new.moment any_left any_left (any_left self.new.moment) }
         ensures clock { self.new.moment ≡ counted self.old.moment }
         ensures faults { NeverFell self.old.faults self.new.faults }
         ensures failed { OnErr result (Rose self.old.faults.read self.new.faults.read) }
@@ -98,6 +126,8 @@ impl<'r, R: Files + Print> Host for FileHost<'r, R> {
     fn read(&mut self, file: FileNo, at: u64, out: &mut [u8]) -> Result<usize, HostFailed>
         ensures count { IfOk result (λ n. n ≤ length out.old) }
         ensures bytes { IfOk result (λ n. IfSome untold (λ c. Reads (file_of c file) at out.old out.new n)) }
+        ensures crash { Stays (any_left self.old.moment) (any_left self.new.moment) }
+        ensures time { Elapses self.old.moment self.new.moment any_left any_left (any_left self.new.moment) }
         ensures clock { self.new.moment ≡ counted self.old.moment }
         ensures faults { NeverFell self.old.faults self.new.faults }
         ensures failed { OnErr result (Rose self.old.faults.read self.new.faults.read) }
@@ -111,7 +141,58 @@ impl<'r, R: Files + Print> Host for FileHost<'r, R> {
         self.end_read(outcome)
     }
 
+    fn write_at(&mut self, file: FileNo, at: u64, bytes: &[u8]) -> Result<(), HostFailed>
+        ensures crash { Follows (Changes file (Torn at (length bytes.now))) (any_left self.old.moment) (any_left self.new.moment) }
+        ensures time { Elapses self.old.moment self.new.moment any_left any_left (any_left self.new.moment) }
+        ensures clock { self.new.moment ≡ counted self.old.moment }
+        ensures faults { NeverFell self.old.faults self.new.faults }
+        ensures failed { OnErr result (Rose self.old.faults.write self.new.faults.write) }
+        ensures counts { self.new ≡ after_write (is_ok result) self.old }
+    {
+        let rt = self.rt;
+        let outcome = match file {
+            FileNo::Db => self.db.write(rt, at, bytes),
+            FileNo::Images => self.images.write(rt, at, bytes),
+        };
+        self.end_write(outcome)
+    }
+
+    fn cut(&mut self, file: FileNo, len: u64) -> Result<(), HostFailed>
+        ensures crash { Follows (Changes file (Cut len)) (any_left self.old.moment) (any_left self.new.moment) }
+        ensures time { Elapses self.old.moment self.new.moment any_left any_left (any_left self.new.moment) }
+        ensures clock { self.new.moment ≡ counted self.old.moment }
+        ensures faults { NeverFell self.old.faults self.new.faults }
+        ensures failed { OnErr result (Rose self.old.faults.write self.new.faults.write) }
+        ensures counts { self.new ≡ after_write (is_ok result) self.old }
+    {
+        let rt = self.rt;
+        let outcome = match file {
+            FileNo::Db => self.db.cut(rt, len),
+            FileNo::Images => self.images.cut(rt, len),
+        };
+        self.end_write(outcome)
+    }
+
+    fn sync(&mut self, file: FileNo) -> Result<(), HostFailed>
+        ensures settled { OnOk result (IfSome untold (λ c. Settles file (file_of c file) (any_left self.new.moment))) }
+        ensures crash { Stays (any_left self.old.moment) (any_left self.new.moment) }
+        ensures time { Elapses self.old.moment self.new.moment any_left any_left (any_left self.new.moment) }
+        ensures clock { self.new.moment ≡ counted self.old.moment }
+        ensures faults { NeverFell self.old.faults self.new.faults }
+        ensures failed { OnErr result (Rose self.old.faults.write self.new.faults.write) }
+        ensures counts { self.new ≡ after_write (is_ok result) self.old }
+    {
+        let rt = self.rt;
+        let outcome = match file {
+            FileNo::Db => self.db.sync(rt),
+            FileNo::Images => self.images.sync(rt),
+        };
+        self.end_write(outcome)
+    }
+
     fn say(&mut self, bytes: &[u8]) -> Result<(), HostFailed>
+        ensures crash { Follows (SaysSome bytes.now) (any_left self.old.moment) (any_left self.new.moment) }
+        ensures time { Elapses self.old.moment self.new.moment any_left any_left (during (SaysSome bytes.now) (any_left self.old.moment)) }
         ensures clock { self.new.moment ≡ counted self.old.moment }
         ensures faults { NeverFell self.old.faults self.new.faults }
         ensures failed { OnErr result (Rose self.old.faults.say self.new.faults.say) }

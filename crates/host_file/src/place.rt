@@ -1,7 +1,7 @@
 ghost use Rattle.std.specs.Prelude.{◌≡◌, ◌≤◌, length, IfOk};
 
-use std::fs::OpenFile;
-use std::io::{Error, ErrorKind, Read, Seek, SeekFrom};
+use std::fs::{OpenFile, OpenOptions};
+use std::io::{Error, ErrorKind, Read, Seek, SeekFrom, Write};
 use std::rt::Files;
 use std::{fs, io};
 
@@ -10,13 +10,18 @@ use std::{fs, io};
 pub(crate) struct Place<F> {
     path: String,
     file: Option<F>,
+    is_writable: bool,
 }
 
-impl<F: Read + Seek + OpenFile + Drop> Place<F> {
+impl<F: Read + Write + Seek + OpenFile + Drop> Place<F> {
     pub(crate) fn new(path: String) -> Place<F>
         ensures { result.path ≡ path }
     {
-        Place { path, file: None }
+        Place {
+            path,
+            file: None,
+            is_writable: false,
+        }
     }
 
     /// The length of the file in bytes. A missing file has none.
@@ -45,6 +50,62 @@ impl<F: Read + Seek + OpenFile + Drop> Place<F> {
             Some(file) => read_at(file, at, out),
             None => Ok(0),
         }
+    }
+
+    /// Writes all the bytes from `at` on. A missing file is made.
+    pub(crate) fn write<R: Files<File = F>>(
+        &mut self,
+        files: &R,
+        at: u64,
+        bytes: &[u8],
+    ) -> io::Result<()>
+        ensures { self.new.path ≡ self.old.path }
+    {
+        self.open_for_writing(files)?;
+        match &mut self.file {
+            Some(file) => write_at(file, at, bytes),
+            None => Err(Error::from(ErrorKind::NotFound)),
+        }
+    }
+
+    /// Cuts the file to a length. A missing file has the length 0 already, and none other.
+    pub(crate) fn cut<R: Files<File = F>>(&mut self, files: &R, len: u64) -> io::Result<()>
+        ensures { self.new.path ≡ self.old.path }
+    {
+        self.open(files)?;
+        if self.file.is_none() && len == 0 {
+            return Ok(());
+        }
+        self.open_for_writing(files)?;
+        match &self.file {
+            Some(file) => file.set_len(len),
+            None => Err(Error::from(ErrorKind::NotFound)),
+        }
+    }
+
+    /// Has the system write what it keeps of the file to the device. A missing file has nothing to write.
+    pub(crate) fn sync<R: Files<File = F>>(&mut self, files: &R) -> io::Result<()>
+        ensures { self.new.path ≡ self.old.path }
+    {
+        self.open(files)?;
+        match &self.file {
+            Some(file) => file.sync_all(),
+            None => Ok(()),
+        }
+    }
+
+    /// Opens the file for reading and writing unless it is open so, and makes it where it is missing.
+    fn open_for_writing<R: Files<File = F>>(&mut self, files: &R) -> io::Result<()>
+        ensures { self.new.path ≡ self.old.path }
+    {
+        if !self.is_writable {
+            self.open(files)?;
+            let mut options = OpenOptions::new();
+            options.read(true).write(true).create(true);
+            self.file = Some(options.open(files, self.path.as_str())?);
+            self.is_writable = true;
+        }
+        Ok(())
     }
 
     /// Opens the file unless it is open. A missing file is looked for again at the next call.
@@ -77,6 +138,11 @@ fn read_at<F: Read + Seek>(file: &mut F, at: u64, out: &mut [u8]) -> io::Result<
     }
     file.seek(SeekFrom::Start(at))?;
     read_full(file, out)
+}
+
+fn write_at<F: Write + Seek>(file: &mut F, at: u64, bytes: &[u8]) -> io::Result<()> {
+    file.seek(SeekFrom::Start(at))?;
+    file.write_all(bytes)
 }
 
 /// Reads until `out` is full or a read gives nothing.

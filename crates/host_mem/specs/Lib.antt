@@ -1,3 +1,11 @@
+pub mod Drive
+pub mod Entries
+pub mod History
+pub mod Inside
+pub mod Laws
 pub mod Log
 pub mod Memory
+pub mod Replay
 pub mod Source
+pub mod Step
+pub mod Stored

@@ -1,48 +1,110 @@
 -- What a memory host holds, and what its calls leave of it.
-use Rattle.std.specs.Prelude.{◌≡◌, ℕ, ◌-◌, min, List, [], ◌++◌, length, take, drop, Result, is_ok, if◌then◌else◌}
-use Rattle.host_model.specs.Files.{Contents, saying}
+use Rattle.std.specs.Prelude.{◌≡◌, ◌⊎◌, ℕ, ◌-◌, min, Bool, true, false, ◌&&◌, List, [], ◌++◌, length, take, drop, Option, None, Some, Contains, Result, is_ok, if◌then◌else◌}
+use Rattle.std.specs.Option.{option_map}
+use Rattle.host_model.specs.declared.host.FileNo.{FileNo}
+use Rattle.host_model.specs.declared.host.FileNo.TheVariants.{Db, Images}
+use Rattle.host_model.specs.Files.{Contents}
 use Rattle.host_model.specs.Faults.{Faults, counted}
 use Rattle.host_mem.specs.declared.call.Call.{Call}
+use Rattle.host_mem.specs.declared.call.Call.TheVariants.{Len, Read, Write as CallWrite, Cut as CallCut, Sync as CallSync, Say as CallSay}
+use Rattle.host_mem.specs.History.{LeftSince, NumberedTo, State, replayed, shown, start}
 use Rattle.host_mem.specs.Log.{Log, Logged, new_log}
+use Rattle.host_mem.specs.Step.{Step}
 
--- both files and what was said, the calls so far, and how often they failed
+-- both files at first and what was said before, the calls since, how often they failed, and how many reads of the
+-- database file succeeded
 pub record Memory : Type 0 where
-  pub contents : Contents
+  pub first : Contents
   pub log : Log
   pub faults : Faults
+  pub reads : ℕ
 
--- a memory host, with the numbers of the calls that are to fail
+-- a memory host, with the numbers of the calls that are to fail, and after how many calls every one is to fail
 pub record Listed : Type 0 where
   pub memory : Memory
   pub failing : List ℕ
+  pub fuse : Option ℕ
+
+-- both files and what was said, with no call made
+abbrev pub memory_of : Contents → Memory
+memory_of first = record {
+  first = first;
+  log = new_log;
+  faults = record { read = 0; write = 0; say = 0 };
+  reads = 0;
+}
 
 -- two files, nothing said, and no call made
 abbrev pub new_memory : List ℕ → List ℕ → Memory
-new_memory db images = record {
-  contents = record { db = db; images = images; said = [] };
-  log = new_log;
-  faults = record { read = 0; write = 0; say = 0 };
-}
+new_memory db images = memory_of (record { db = db; images = images; said = [] })
 
--- a read failed once more
-abbrev pub read_failed : Faults → Faults
-read_failed faults = record faults { read = counted faults.read }
+-- both files on their disks now, and what was said
+abbrev pub state_of : Memory → State
+state_of memory = replayed (start memory.first) memory.log.steps
 
--- a saying failed once more
-abbrev pub say_failed : Faults → Faults
-say_failed faults = record faults { say = counted faults.say }
+-- with other bytes in one file
+abbrev pub with_file : FileNo → List ℕ → Contents → Contents
+with_file Db bytes c = record c { db = bytes }
+with_file Images bytes c = record c { images = bytes }
 
--- What a call that only reads leaves: nothing is new but the record of it, and the count where it failed.
-pub record Looked {T E : Type 0} (listed : Type 0) (call : Call) (result : Result T E) (old new : Memory) : Type 0 where
-  pub contents : new.contents ≡ old.contents
-  pub log : Logged listed call result old.log new.log
-  pub faults : new.faults ≡ (if is_ok result then old.faults else read_failed old.faults)
+-- what a read gives of both files, and what was said
+abbrev pub contents_of : Memory → Contents
+contents_of memory = shown (state_of memory)
 
--- What a saying leaves: all its bytes were said, or nothing and the count rose.
-pub record Said {T E : Type 0} (listed : Type 0) (bytes : List ℕ) (call : Call) (result : Result T E) (old new : Memory) : Type 0 where
-  pub contents : new.contents ≡ (if is_ok result then saying old.contents bytes else old.contents)
-  pub log : Logged listed call result old.log new.log
-  pub faults : new.faults ≡ (if is_ok result then old.faults else say_failed old.faults)
+-- what a crash at a moment or since might have left
+abbrev pub left_since : Memory → ℕ → Contents → Type 0
+left_since memory t c = LeftSince memory.first memory.log.steps memory.log.moment t c
+
+-- the counts where such a call failed once more
+abbrev pub failed_by : Call → Faults → Faults
+failed_by (Len number file) faults = record faults { read = counted faults.read }
+failed_by (Read number file at len) faults = record faults { read = counted faults.read }
+failed_by (CallWrite number file at len) faults = record faults { write = counted faults.write }
+failed_by (CallCut number file len) faults = record faults { write = counted faults.write }
+failed_by (CallSync number file) faults = record faults { write = counted faults.write }
+failed_by (CallSay number len) faults = record faults { say = counted faults.say }
+
+-- a call that only reads
+abbrev pub IsLook : Call → Type 0
+IsLook (Len number file) = Unit {0}
+IsLook (Read number file at len) = Unit {0}
+IsLook (CallWrite number file at len) = ⊥
+IsLook (CallCut number file len) = ⊥
+IsLook (CallSync number file) = ⊥
+IsLook (CallSay number len) = ⊥
+
+-- a read of the database file
+abbrev pub reads_db : Call → Bool
+reads_db (Len number file) = false
+reads_db (Read number Db at len) = true
+reads_db (Read number Images at len) = false
+reads_db (CallWrite number file at len) = false
+reads_db (CallCut number file len) = false
+reads_db (CallSync number file) = false
+reads_db (CallSay number len) = false
+
+-- What a call leaves: nothing is new but the record of it, with the step that it made, and the counts.
+pub record Called {T E : Type 0} (listed : Type 0) (call : Call) (step : Option Step) (result : Result T E) (old new : Memory) : Type 0 where
+  pub first : new.first ≡ old.first
+  pub log : Logged listed call step result old.log new.log
+  pub faults : new.faults ≡ (if is_ok result then old.faults else failed_by call old.faults)
+  pub reads : new.reads ≡ (if is_ok result && reads_db call then counted old.reads else old.reads)
+
+-- a step that a call makes only where it succeeds
+abbrev pub only_done : {T E : Type 0} → Result T E → Step → Option Step
+only_done result step = if is_ok result then Some step else None
+
+-- what a memory host keeps of its calls: their numbers are those of calls that were made
+abbrev pub IsNumbered : Memory → Type 0
+IsNumbered memory = NumberedTo memory.log.moment memory.log.steps
+
+-- the next call is to fail
+abbrev pub IsToFail : Listed → Type 0
+IsToFail host = Contains host.failing (counted host.memory.log.moment) ⊎ (host.fuse ≡ Some 0)
+
+-- a fuse after one call more
+abbrev pub burnt : Option ℕ → Option ℕ
+burnt fuse = option_map (λ n. n - 1) fuse
 
 -- a buffer whose front the file's bytes from there on took, as many as both have
 abbrev pub filled : List ℕ → ℕ → List ℕ → List ℕ

@@ -15,6 +15,24 @@ pub enum Call {
         at: u64,
         len: usize,
     },
+    /// So many bytes were to be written into a file from the byte `at` on.
+    Write {
+        number: u64,
+        file: FileNo,
+        at: u64,
+        len: usize,
+    },
+    /// A file was to be cut to its first `len` bytes.
+    Cut {
+        number: u64,
+        file: FileNo,
+        len: u64,
+    },
+    /// A file was to be made stable.
+    Sync {
+        number: u64,
+        file: FileNo,
+    },
     /// So many bytes were to be said.
     Say {
         number: u64,

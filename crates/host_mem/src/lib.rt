@@ -5,7 +5,11 @@ mod call;
 mod host;
 mod log;
 mod memory;
+mod parts;
+mod replay;
 mod source;
+mod step;
+mod stored;
 mod sure;
 
 pub use call::Call;

@@ -1,23 +1,21 @@
-ghost use Rattle.std.specs.Prelude.{◌≡◌, ◌-◌, ◌++◌, min, length, take, drop, IsTrue, IfOk, OnOk, OnErr};
+ghost use Rattle.std.specs.Prelude.{◌≡◌, ◌-◌, ◌≤◌, min, length, None, Some, is_ok, IsTrue, IfOk, OnOk, OnErr};
+ghost use Rattle.host_model.specs.Disk.{Changes, Cut as CutAt, Cuts, Elapses, Follows, SaysSome, Settles, Stays, Torn, Writes, during};
 ghost use Rattle.host_model.specs.Faults.{NeverFell, counted};
-ghost use Rattle.host_model.specs.Files.{file_of};
-ghost use Rattle.host_mem.specs.Memory.{filled};
+ghost use Rattle.host_model.specs.Files.{Says, file_of};
 
 use super::call::Call;
 use super::log::Log;
+use super::parts::Parts;
+use super::replay::{Disks, leave, replay};
+use super::stored::Stored;
 use host_model::{FileNo, HostFailed};
-use std::alloc::Global;
+use std::alloc::{AllocError, Global};
 use std::marker::Model;
 
-/// What both memory hosts are: two files, what was said, and the calls so far.
+/// What both memory hosts are.
 #[derive(Drop)]
 pub(crate) struct Memory {
-    db: Vec<u8>,
-    images: Vec<u8>,
-    said: Vec<u8>,
-    log: Log,
-    read_faults: u64,
-    say_faults: u64,
+    parts: Parts,
 }
 
 impl Model for Memory {
@@ -25,26 +23,42 @@ impl Model for Memory {
 
     ghost Value = { Memory };
 
-    ghost view = { λ memory. record {
-      contents = record { db = memory.db.items; images = memory.images.items; said = memory.said.items };
-      log = memory.log;
-      faults = record { read = memory.read_faults; write = 0; say = memory.say_faults };
-    } };
+    ghost use Rattle.host_mem.specs.Inside.{IsMemory, seen};
+
+    ghost view = { λ memory. seen memory.parts };
+
+    ghost invariant = { λ memory. IsMemory memory.parts };
 }
 
 impl Memory {
-    ghost use Rattle.host_mem.specs.Memory.{Looked, Said, new_memory};
+    ghost use Rattle.host_mem.specs.History.{crashed_state};
+    ghost use Rattle.host_mem.specs.Memory.{Called, contents_of, filled, left_since, memory_of, only_done, state_of};
+    ghost use Rattle.host_mem.specs.Step.{Cut, Say, Sync, Write};
 
-    pub(crate) fn new(alloc: Global, db: Vec<u8>, images: Vec<u8>) -> Memory
-        ensures { result ≡ new_memory db.items images.items }
+    pub(crate) fn new(alloc: Global, db: Vec<u8>, images: Vec<u8>, said: Vec<u8>) -> Memory
+        ensures { result ≡ memory_of (record { db = db.items; images = images.items; said = said.items }) }
     {
         Memory {
-            db,
-            images,
-            said: Vec::new(alloc),
-            log: Log::new(alloc),
-            read_faults: 0,
-            say_faults: 0,
+            parts: Parts {
+                db: Stored {
+                    bytes: db,
+                    first: None,
+                },
+                images: Stored {
+                    bytes: images,
+                    first: None,
+                },
+                said: Stored {
+                    bytes: said,
+                    first: None,
+                },
+                log: Log::new(alloc),
+                alloc,
+                read_faults: 0,
+                write_faults: 0,
+                say_faults: 0,
+                reads: 0,
+            },
         }
     }
 
@@ -52,17 +66,18 @@ impl Memory {
     pub(crate) fn next(&self) -> u64
         ensures { result ≡ counted self.now.log.moment }
     {
-        self.log.next()
+        self.parts.log.next()
     }
 
     pub(crate) fn len(&mut self, file: FileNo, listed: bool) -> Result<u64, HostFailed>
-        ensures length { IfOk result (λ n. n ≡ length (file_of self.old.contents file)) }
+        ensures length { IfOk result (λ n. n ≡ length (file_of (contents_of self.old) file)) }
+        ensures told { contents_of self.new ≡ contents_of self.old }
+        ensures crash { Stays (left_since self.old self.old.log.moment) (left_since self.new self.new.log.moment) }
+        ensures time { Elapses self.old.log.moment self.new.log.moment (left_since self.old) (left_since self.new) (left_since self.new self.new.log.moment) }
         ensures faults { NeverFell self.old.faults self.new.faults }
-        ensures looked { Looked (IsTrue listed) (Call.Len (counted self.old.log.moment) file) result self.old self.new }
+        ensures called { Called (IsTrue listed) (Call.Len (counted self.old.log.moment) file) None result self.old self.new }
     {
-        let number = self.log.next();
-        self.look(Call::Len { number, file }, listed)?;
-        Ok(self.bytes(file).len() as u64)
+        self.parts.len(file, listed)
     }
 
     pub(crate) fn read(
@@ -72,107 +87,119 @@ impl Memory {
         out: &mut [u8],
         listed: bool,
     ) -> Result<usize, HostFailed>
-        ensures count { IfOk result (λ n. n ≡ min (length out.old) (length (file_of self.old.contents file) - at)) }
-        ensures bytes { OnOk result (out.new ≡ filled (file_of self.old.contents file) at out.old) }
+        ensures count { IfOk result (λ n. n ≡ min (length out.old) (length (file_of (contents_of self.old) file) - at)) }
+        ensures bytes { OnOk result (out.new ≡ filled (file_of (contents_of self.old) file) at out.old) }
         ensures unread { OnErr result (out.new ≡ out.old) }
+        ensures told { contents_of self.new ≡ contents_of self.old }
+        ensures crash { Stays (left_since self.old self.old.log.moment) (left_since self.new self.new.log.moment) }
+        ensures time { Elapses self.old.log.moment self.new.log.moment (left_since self.old) (left_since self.new) (left_since self.new self.new.log.moment) }
         ensures faults { NeverFell self.old.faults self.new.faults }
-        ensures looked { Looked (IsTrue listed)
-            (Call.Read (counted self.old.log.moment) file at (length out.old)) result self.old self.new }
+        ensures called { Called (IsTrue listed) (Call.Read (counted self.old.log.moment) file at (length out.old)) None result self.old self.new }
     {
-        let number = self.log.next();
-        let len = out.len();
-        let call = Call::Read {
-            number,
-            file,
-            at,
-            len,
-        };
-        self.look(call, listed)?;
-        Ok(fill(self.bytes(file), at, out))
+        self.parts.read(file, at, out, listed)
+    }
+
+    pub(crate) fn write_at(
+        &mut self,
+        file: FileNo,
+        at: u64,
+        bytes: &[u8],
+        listed: bool,
+    ) -> Result<(), HostFailed>
+        requires { at ≤ length (file_of (contents_of self.old) file) }
+        ensures told { Changes file (Writes at bytes.now result) (contents_of self.old) (contents_of self.new) }
+        ensures exactly { OnErr result (contents_of self.new ≡ contents_of self.old) }
+        ensures crash { Follows (Changes file (Torn at (length bytes.now))) (left_since self.old self.old.log.moment) (left_since self.new self.new.log.moment) }
+        ensures time { Elapses self.old.log.moment self.new.log.moment (left_since self.old) (left_since self.new) (left_since self.new self.new.log.moment) }
+        ensures faults { NeverFell self.old.faults self.new.faults }
+        ensures called { Called (IsTrue listed) (Call.Write (counted self.old.log.moment) file at (length bytes.now))
+            (Some (Write (counted self.old.log.moment) file at bytes.now (is_ok result))) result self.old self.new }
+    {
+        self.parts.write_at(file, at, bytes, listed)
+    }
+
+    pub(crate) fn cut(&mut self, file: FileNo, len: u64, listed: bool) -> Result<(), HostFailed>
+        requires { len ≤ length (file_of (contents_of self.old) file) }
+        ensures told { Changes file (Cuts len result) (contents_of self.old) (contents_of self.new) }
+        ensures exactly { OnErr result (contents_of self.new ≡ contents_of self.old) }
+        ensures crash { Follows (Changes file (CutAt len)) (left_since self.old self.old.log.moment) (left_since self.new self.new.log.moment) }
+        ensures time { Elapses self.old.log.moment self.new.log.moment (left_since self.old) (left_since self.new) (left_since self.new self.new.log.moment) }
+        ensures faults { NeverFell self.old.faults self.new.faults }
+        ensures called { Called (IsTrue listed) (Call.Cut (counted self.old.log.moment) file len)
+            (Some (Cut (counted self.old.log.moment) file len (is_ok result))) result self.old self.new }
+    {
+        self.parts.cut(file, len, listed)
+    }
+
+    pub(crate) fn sync(&mut self, file: FileNo, listed: bool) -> Result<(), HostFailed>
+        ensures settled { OnOk result (Settles file (file_of (contents_of self.old) file) (left_since self.new self.new.log.moment)) }
+        ensures told { contents_of self.new ≡ contents_of self.old }
+        ensures crash { Stays (left_since self.old self.old.log.moment) (left_since self.new self.new.log.moment) }
+        ensures time { Elapses self.old.log.moment self.new.log.moment (left_since self.old) (left_since self.new) (left_since self.new self.new.log.moment) }
+        ensures faults { NeverFell self.old.faults self.new.faults }
+        ensures called { Called (IsTrue listed) (Call.Sync (counted self.old.log.moment) file)
+            (only_done result (Sync (counted self.old.log.moment) file)) result self.old self.new }
+    {
+        self.parts.sync(file, listed)
     }
 
     pub(crate) fn say(&mut self, bytes: &[u8], listed: bool) -> Result<(), HostFailed>
+        ensures said { Says bytes.now result (contents_of self.old) (contents_of self.new) }
+        ensures exactly { OnErr result (contents_of self.new ≡ contents_of self.old) }
+        ensures crash { Follows (SaysSome bytes.now) (left_since self.old self.old.log.moment) (left_since self.new self.new.log.moment) }
+        ensures time { Elapses self.old.log.moment self.new.log.moment (left_since self.old) (left_since self.new)
+            (during (SaysSome bytes.now) (left_since self.old self.old.log.moment)) }
         ensures faults { NeverFell self.old.faults self.new.faults }
-        ensures said { Said (IsTrue listed) bytes.now
-            (Call.Say (counted self.old.log.moment) (length bytes.now)) result self.old self.new }
+        ensures called { Called (IsTrue listed) (Call.Say (counted self.old.log.moment) (length bytes.now))
+            (only_done result (Say (counted self.old.log.moment) bytes.now)) result self.old self.new }
     {
-        let number = self.log.next();
-        let len = bytes.len();
-        // Memory comes first: a call that finds none changes nothing but the counts.
-        if !listed && self.said.try_reserve(len).is_err() {
-            self.log.starve();
-            self.say_faults = self.say_faults.saturating_add(1);
-            return Err(HostFailed);
-        }
-        if self.log.admit(Call::Say { number, len }).is_err() || listed {
-            self.say_faults = self.say_faults.saturating_add(1);
-            return Err(HostFailed);
-        }
-        self.said.extend_from_slice(bytes).unwrap();
-        Ok(())
+        self.parts.say(bytes, listed)
     }
 
-    /// Records a call that only reads, and says whether it goes on.
-    fn look(&mut self, call: Call, listed: bool) -> Result<(), HostFailed>
-        ensures faults { NeverFell self.old.faults self.new.faults }
-        ensures looked { Looked (IsTrue listed) call result self.old self.new }
+    /// A host with what the crash of this choice leaves, and no call made.
+    pub(crate) fn crash(&self, choice: u64) -> Result<Memory, AllocError>
+        ensures { IfOk result (λ memory. memory ≡ memory_of (crashed_state choice (state_of self.now))) }
     {
-        if self.log.admit(call).is_err() || listed {
-            self.read_faults = self.read_faults.saturating_add(1);
-            return Err(HostFailed);
-        }
-        Ok(())
+        let alloc = self.parts.alloc;
+        let mut disks = self.parts.first_disks()?;
+        replay(&mut disks, alloc, self.parts.log.steps())?;
+        let Disks { db, images, said } = disks;
+        let db = leave(&db, alloc, choice)?;
+        let images = leave(&images, alloc, choice)?;
+        Ok(Memory::new(alloc, db, images, said))
     }
 
-    fn bytes(&self, file: FileNo) -> &[u8]
-        ensures { result.now ≡ file_of self.now.contents file }
-    {
-        match file {
-            FileNo::Db => self.db.as_slice(),
-            FileNo::Images => self.images.as_slice(),
-        }
+    pub(crate) fn alloc(&self) -> Global {
+        self.parts.alloc
     }
 
     pub(crate) fn parts(&self) -> (&[u8], &[u8], &[u8])
-        ensures db { result.0.now ≡ self.now.contents.db }
-        ensures images { result.1.now ≡ self.now.contents.images }
-        ensures said { result.2.now ≡ self.now.contents.said }
+        ensures db { result.0.now ≡ (contents_of self.now).db }
+        ensures images { result.1.now ≡ (contents_of self.now).images }
+        ensures said { result.2.now ≡ (contents_of self.now).said }
     {
         (
-            self.db.as_slice(),
-            self.images.as_slice(),
-            self.said.as_slice(),
+            self.parts.db.bytes.as_slice(),
+            self.parts.images.bytes.as_slice(),
+            self.parts.said.bytes.as_slice(),
         )
     }
 
     pub(crate) fn starved(&self) -> u64
         ensures { result ≡ self.now.log.starved }
     {
-        self.log.starved()
+        self.parts.log.starved()
+    }
+
+    pub(crate) fn reads(&self) -> u64
+        ensures { result ≡ self.now.reads }
+    {
+        self.parts.reads
     }
 
     pub(crate) fn calls(&self) -> &[Call]
         ensures { result.now ≡ self.now.log.calls }
     {
-        self.log.calls()
+        self.parts.log.calls()
     }
-}
-
-/// Puts what the file has from `at` on at the front of `out`, and answers how many bytes those are.
-fn fill(file: &[u8], at: u64, out: &mut [u8]) -> usize
-    ensures count { result ≡ min (length out.old) (length file.now - at) }
-    ensures bytes { out.new ≡ filled file.now at out.old }
-{
-    let start = at.min(file.len() as u64) as usize;
-    copy_front(&file[start..], out)
-}
-
-/// Copies as many bytes as both have to the front of `out`, and answers how many those are.
-pub(crate) fn copy_front(from: &[u8], out: &mut [u8]) -> usize
-    ensures count { result ≡ min (length out.old) (length from.now) }
-    ensures bytes { out.new ≡ take result from.now ++ drop result out.old }
-{
-    let count = out.len().min(from.len());
-    out[..count].copy_from_slice(&from[..count]);
-    count
 }

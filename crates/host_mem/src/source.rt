@@ -2,7 +2,7 @@ ghost use Rattle.std.specs.Prelude.{◌≡◌, ◌+◌, ◌<◌, ◌≤◌, ◌�
 ghost use Rattle.host_model.specs.Faults.{Rose};
 ghost use Rattle.host_model.specs.Files.{Gives};
 
-use super::memory::copy_front;
+use super::parts::copy_front;
 use host_model::{Source, SourceFailed};
 use std::marker::Model;
 

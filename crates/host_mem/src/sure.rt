@@ -1,7 +1,10 @@
-ghost use Rattle.std.specs.Prelude.{◌≡◌, ◌≤◌, length, Some, IfOk, OnOk, OnErr};
+ghost use Rattle.std.specs.Prelude.{◌≡◌, ◌≤◌, ◌↔◌, length, Contains, None, Some, is_ok, IsTrue, IfOk, OnOk, OnErr};
+ghost use Rattle.host_model.specs.Disk.{Changes, Cut as CutAt, Cuts, Elapses, Follows, SaysSome, Settles, Stays, Torn, Writes, during};
 ghost use Rattle.host_model.specs.Faults.{NeverFell, Rose, counted};
 ghost use Rattle.host_model.specs.Files.{Reads, Says, file_of};
-ghost use Rattle.host_mem.specs.Memory.{Looked, Said, filled, new_memory};
+ghost use Rattle.host_mem.specs.Laws.{LeftSince-longer, told_is_left, told_said_stays};
+ghost use Rattle.host_mem.specs.Memory.{Called, contents_of, filled, left_since, new_memory, only_done};
+ghost use Rattle.host_mem.specs.Step.{Cut, Say, Sync, Write};
 
 use super::call::Call;
 use super::memory::Memory;
@@ -29,15 +32,15 @@ impl SureHost {
         ensures { result ≡ new_memory db.items images.items }
     {
         SureHost {
-            memory: Memory::new(alloc, db, images),
+            memory: Memory::new(alloc, db, images, Vec::new(alloc)),
         }
     }
 
     /// Both files, and what was said.
     pub fn parts(&self) -> (&[u8], &[u8], &[u8])
-        ensures db { result.0.now ≡ self.now.contents.db }
-        ensures images { result.1.now ≡ self.now.contents.images }
-        ensures said { result.2.now ≡ self.now.contents.said }
+        ensures db { result.0.now ≡ (contents_of self.now).db }
+        ensures images { result.1.now ≡ (contents_of self.now).images }
+        ensures said { result.2.now ≡ (contents_of self.now).said }
     {
         self.memory.parts()
     }
@@ -49,58 +52,113 @@ impl SureHost {
         self.memory.calls()
     }
 
-    /// How many calls found no memory for the record of them or for the said bytes.
+    /// How many calls found no memory for the record of them, for a write or for the said bytes.
     pub fn starved(&self) -> u64
         ensures { result ≡ self.now.log.starved }
     {
         self.memory.starved()
     }
+
+    /// How many reads of the database file succeeded.
+    pub fn reads(&self) -> u64
+        ensures { result ≡ self.now.reads }
+    {
+        self.memory.reads()
+    }
 }
 
 impl Host for SureHost {
-    ghost told = { λ host. Some host.contents };
+    ghost told = { λ host. Some (contents_of host) };
 
     ghost moment = { λ host. host.log.moment };
 
     ghost faults = { λ host. host.faults };
 
+    ghost left_since = { λ host. left_since host };
+
     fn len(&mut self, file: FileNo) -> Result<u64, HostFailed>
-        ensures length { IfOk result (λ n. n ≡ length (file_of self.old.contents file)) }
-        ensures told { Some self.new.contents ≡ Some self.old.contents }
+        ensures length { IfOk result (λ n. n ≡ length (file_of (contents_of self.old) file)) }
+        ensures told { Some (contents_of self.new) ≡ Some (contents_of self.old) }
+        ensures crash { Stays (left_since self.old self.old.log.moment) (left_since self.new self.new.log.moment) }
+        ensures time { Elapses self.old.log.moment self.new.log.moment (left_since self.old) (left_since self.new) (left_since self.new self.new.log.moment) }
         ensures clock { self.new.log.moment ≡ counted self.old.log.moment }
         ensures faults { NeverFell self.old.faults self.new.faults }
         ensures failed { OnErr result (Rose self.old.faults.read self.new.faults.read) }
-        ensures looked { Looked ⊥
-            (Call.Len (counted self.old.log.moment) file) result self.old self.new }
+        ensures called { Called (⊥) (Call.Len (counted self.old.log.moment) file) None result self.old self.new }
     {
         self.memory.len(file, false)
     }
 
     fn read(&mut self, file: FileNo, at: u64, out: &mut [u8]) -> Result<usize, HostFailed>
         ensures count { IfOk result (λ n. n ≤ length out.old) }
-        ensures bytes { IfOk result (Reads (file_of self.old.contents file) at out.old out.new) }
-        ensures told { Some self.new.contents ≡ Some self.old.contents }
+        ensures bytes { IfOk result (Reads (file_of (contents_of self.old) file) at out.old out.new) }
+        ensures told { Some (contents_of self.new) ≡ Some (contents_of self.old) }
+        ensures crash { Stays (left_since self.old self.old.log.moment) (left_since self.new self.new.log.moment) }
+        ensures time { Elapses self.old.log.moment self.new.log.moment (left_since self.old) (left_since self.new) (left_since self.new self.new.log.moment) }
         ensures clock { self.new.log.moment ≡ counted self.old.log.moment }
         ensures faults { NeverFell self.old.faults self.new.faults }
         ensures failed { OnErr result (Rose self.old.faults.read self.new.faults.read) }
-        ensures filled { OnOk result (out.new ≡ filled (file_of self.old.contents file) at out.old) }
+        ensures filled { OnOk result (out.new ≡ filled (file_of (contents_of self.old) file) at out.old) }
         ensures unread { OnErr result (out.new ≡ out.old) }
-        ensures looked { Looked ⊥
-            (Call.Read (counted self.old.log.moment) file at (length out.old))
-            result self.old self.new }
+        ensures called { Called (⊥) (Call.Read (counted self.old.log.moment) file at (length out.old)) None result self.old self.new }
     {
         self.memory.read(file, at, out, false)
     }
 
+    fn write_at(&mut self, file: FileNo, at: u64, bytes: &[u8]) -> Result<(), HostFailed>
+        requires { at ≤ length (file_of (contents_of self.old) file) }
+        ensures told { Changes file (Writes at bytes.now result) (contents_of self.old) (contents_of self.new) }
+        ensures crash { Follows (Changes file (Torn at (length bytes.now))) (left_since self.old self.old.log.moment) (left_since self.new self.new.log.moment) }
+        ensures time { Elapses self.old.log.moment self.new.log.moment (left_since self.old) (left_since self.new) (left_since self.new self.new.log.moment) }
+        ensures clock { self.new.log.moment ≡ counted self.old.log.moment }
+        ensures faults { NeverFell self.old.faults self.new.faults }
+        ensures failed { OnErr result (Rose self.old.faults.write self.new.faults.write) }
+        ensures called { Called (⊥) (Call.Write (counted self.old.log.moment) file at (length bytes.now)) (Some (Write (counted self.old.log.moment) file at bytes.now (is_ok result))) result self.old self.new }
+    {
+        self.memory.write_at(file, at, bytes, false)
+    }
+
+    fn cut(&mut self, file: FileNo, len: u64) -> Result<(), HostFailed>
+        requires { len ≤ length (file_of (contents_of self.old) file) }
+        ensures told { Changes file (Cuts len result) (contents_of self.old) (contents_of self.new) }
+        ensures crash { Follows (Changes file (CutAt len)) (left_since self.old self.old.log.moment) (left_since self.new self.new.log.moment) }
+        ensures time { Elapses self.old.log.moment self.new.log.moment (left_since self.old) (left_since self.new) (left_since self.new self.new.log.moment) }
+        ensures clock { self.new.log.moment ≡ counted self.old.log.moment }
+        ensures faults { NeverFell self.old.faults self.new.faults }
+        ensures failed { OnErr result (Rose self.old.faults.write self.new.faults.write) }
+        ensures called { Called (⊥) (Call.Cut (counted self.old.log.moment) file len) (Some (Cut (counted self.old.log.moment) file len (is_ok result))) result self.old self.new }
+    {
+        self.memory.cut(file, len, false)
+    }
+
+    fn sync(&mut self, file: FileNo) -> Result<(), HostFailed>
+        ensures settled { OnOk result (Settles file (file_of (contents_of self.old) file) (left_since self.new self.new.log.moment)) }
+        ensures told { Some (contents_of self.new) ≡ Some (contents_of self.old) }
+        ensures crash { Stays (left_since self.old self.old.log.moment) (left_since self.new self.new.log.moment) }
+        ensures time { Elapses self.old.log.moment self.new.log.moment (left_since self.old) (left_since self.new) (left_since self.new self.new.log.moment) }
+        ensures clock { self.new.log.moment ≡ counted self.old.log.moment }
+        ensures faults { NeverFell self.old.faults self.new.faults }
+        ensures failed { OnErr result (Rose self.old.faults.write self.new.faults.write) }
+        ensures called { Called (⊥) (Call.Sync (counted self.old.log.moment) file) (only_done result (Sync (counted self.old.log.moment) file)) result self.old self.new }
+    {
+        self.memory.sync(file, false)
+    }
+
     fn say(&mut self, bytes: &[u8]) -> Result<(), HostFailed>
-        ensures said { Says bytes.now result self.old.contents self.new.contents }
+        ensures said { Says bytes.now result (contents_of self.old) (contents_of self.new) }
+        ensures crash { Follows (SaysSome bytes.now) (left_since self.old self.old.log.moment) (left_since self.new self.new.log.moment) }
+        ensures time { Elapses self.old.log.moment self.new.log.moment (left_since self.old) (left_since self.new) (during (SaysSome bytes.now) (left_since self.old self.old.log.moment)) }
         ensures clock { self.new.log.moment ≡ counted self.old.log.moment }
         ensures faults { NeverFell self.old.faults self.new.faults }
         ensures failed { OnErr result (Rose self.old.faults.say self.new.faults.say) }
-        ensures exactly { Said ⊥ bytes.now
-            (Call.Say (counted self.old.log.moment) (length bytes.now))
-            result self.old self.new }
+        ensures called { Called (⊥) (Call.Say (counted self.old.log.moment) (length bytes.now)) (only_done result (Say (counted self.old.log.moment) bytes.now)) result self.old self.new }
     {
         self.memory.say(bytes, false)
     }
+
+    ghost longer = { λ host t u c. LeftSince-longer host.first host.log.steps host.log.moment t u c };
+
+    ghost now_left = { λ host c. told_is_left host.first host.log.steps host.log.moment c };
+
+    ghost said_stays = { λ host now c. told_said_stays host.first host.log.steps host.log.moment now c };
 }

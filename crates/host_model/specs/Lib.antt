@@ -1,3 +1,5 @@
 pub mod Faults
 pub mod Told
 pub mod Files
+pub mod Disk
+pub mod Moments

@@ -1,7 +1,9 @@
-ghost use Rattle.std.specs.Prelude.{◌≡◌, ◌≤◌, ℕ, Option, length, IfOk, OnErr, IfSome};
+ghost use Rattle.std.specs.Prelude.{◌≡◌, ◌≤◌, ℕ, Option, None, Some, length, IfOk, OnOk, OnErr, IfSome};
+ghost use Rattle.std.specs.Option.{ForSome};
 ghost use Rattle.host_model.specs.Faults.{Faults, NeverFell, Rose, counted};
 ghost use Rattle.host_model.specs.Told.{GoesOn};
 ghost use Rattle.host_model.specs.Files.{Contents, Reads, Says, file_of};
+ghost use Rattle.host_model.specs.Disk.{Changes, Cut, Cuts, Elapses, Follows, SaysSome, Settles, Stays, Torn, Writes, during};
 
 use thiserror::Error;
 
@@ -21,8 +23,12 @@ pub struct HostFailed;
 
 /// Two files and a place to say things.
 ///
-/// A host may tell what it holds, as one in memory does, and then goes on telling. What the clauses say
-/// of bytes holds of such a host; of another, as real files are, they say how many bytes came at most.
+/// A host may tell what it holds, as one in memory does, and then goes on telling; one that doesn't never does.
+/// What the clauses say of bytes holds of a host that tells; of another, as real files are, they say how many
+/// bytes came at most.
+///
+/// A crash may come at any moment. What it may have left is told by its history, `left_since`: both files and
+/// what was said, of one moment together.
 pub trait Host: Drop {
     /// What both files hold and what was said so far, where the host tells it.
     ghost told: { Self → Option Contents };
@@ -33,10 +39,15 @@ pub trait Host: Drop {
     /// How often calls have failed, by their kind.
     ghost faults: { Self → Faults };
 
+    /// What a crash at that moment or at one since might have left.
+    ghost left_since: { Self → ℕ → Contents → Type 0 };
+
     /// The length of a file in bytes. A missing file has none.
     fn len(&mut self, file: FileNo) -> Result<u64, HostFailed>
         ensures length { IfOk result (λ n. IfSome (told self.old) (λ c. n ≡ length (file_of c file))) }
         ensures told { told self.new ≡ told self.old }
+        ensures crash { Stays (left_since self.old (moment self.old)) (left_since self.new (moment self.new)) }
+        ensures time { Elapses (moment self.old) (moment self.new) (left_since self.old) (left_since self.new) (left_since self.new (moment self.new)) }
         ensures clock { moment self.new ≡ counted (moment self.old) }
         ensures faults { NeverFell (faults self.old) (faults self.new) }
         ensures failed { OnErr result (Rose (faults self.old).read (faults self.new).read) };
@@ -47,14 +58,64 @@ pub trait Host: Drop {
         ensures count { IfOk result (λ n. n ≤ length out.old) }
         ensures bytes { IfOk result (λ n. IfSome (told self.old) (λ c. Reads (file_of c file) at out.old out.new n)) }
         ensures told { told self.new ≡ told self.old }
+        ensures crash { Stays (left_since self.old (moment self.old)) (left_since self.new (moment self.new)) }
+        ensures time { Elapses (moment self.old) (moment self.new) (left_since self.old) (left_since self.new) (left_since self.new (moment self.new)) }
         ensures clock { moment self.new ≡ counted (moment self.old) }
         ensures faults { NeverFell (faults self.old) (faults self.new) }
         ensures failed { OnErr result (Rose (faults self.old).read (faults self.new).read) };
 
+    /// Writes over what the file has from `at` on, and past its end. Until a sync that succeeds, a crash may leave
+    /// any bytes in that range. Where the call fails, they may be any now too.
+    fn write_at(&mut self, file: FileNo, at: u64, bytes: &[u8]) -> Result<(), HostFailed>
+        requires { ForSome (told self.old) (λ c. at ≤ length (file_of c file)) }
+        ensures told { GoesOn (told self.old) (told self.new) (Changes file (Writes at bytes.now result)) }
+        ensures untold { told self.old ≡ None → told self.new ≡ None }
+        ensures crash { Follows (Changes file (Torn at (length bytes.now))) (left_since self.old (moment self.old)) (left_since self.new (moment self.new)) }
+        ensures time { Elapses (moment self.old) (moment self.new) (left_since self.old) (left_since self.new) (left_since self.new (moment self.new)) }
+        ensures clock { moment self.new ≡ counted (moment self.old) }
+        ensures faults { NeverFell (faults self.old) (faults self.new) }
+        ensures failed { OnErr result (Rose (faults self.old).write (faults self.new).write) };
+
+    /// Cuts the file to its first `len` bytes. Until a sync that succeeds, a crash may leave it longer, with any bytes
+    /// from there on.
+    fn cut(&mut self, file: FileNo, len: u64) -> Result<(), HostFailed>
+        requires { ForSome (told self.old) (λ c. len ≤ length (file_of c file)) }
+        ensures told { GoesOn (told self.old) (told self.new) (Changes file (Cuts len result)) }
+        ensures untold { told self.old ≡ None → told self.new ≡ None }
+        ensures crash { Follows (Changes file (Cut len)) (left_since self.old (moment self.old)) (left_since self.new (moment self.new)) }
+        ensures time { Elapses (moment self.old) (moment self.new) (left_since self.old) (left_since self.new) (left_since self.new (moment self.new)) }
+        ensures clock { moment self.new ≡ counted (moment self.old) }
+        ensures faults { NeverFell (faults self.old) (faults self.new) }
+        ensures failed { OnErr result (Rose (faults self.old).write (faults self.new).write) };
+
+    /// After it a crash leaves of this file what a read gives. Where it fails nothing is known to be stable.
+    fn sync(&mut self, file: FileNo) -> Result<(), HostFailed>
+        ensures settled { OnOk result (IfSome (told self.old) (λ c.
+            Settles file (file_of c file) (left_since self.new (moment self.new)))) }
+        ensures told { told self.new ≡ told self.old }
+        ensures crash { Stays (left_since self.old (moment self.old)) (left_since self.new (moment self.new)) }
+        ensures time { Elapses (moment self.old) (moment self.new) (left_since self.old) (left_since self.new) (left_since self.new (moment self.new)) }
+        ensures clock { moment self.new ≡ counted (moment self.old) }
+        ensures faults { NeverFell (faults self.old) (faults self.new) }
+        ensures failed { OnErr result (Rose (faults self.old).write (faults self.new).write) };
+
     /// Says the bytes, or where it fails some of the first.
     fn say(&mut self, bytes: &[u8]) -> Result<(), HostFailed>
         ensures said { GoesOn (told self.old) (told self.new) (Says bytes.now result) }
+        ensures untold { told self.old ≡ None → told self.new ≡ None }
+        ensures crash { Follows (SaysSome bytes.now) (left_since self.old (moment self.old)) (left_since self.new (moment self.new)) }
+        ensures time { Elapses (moment self.old) (moment self.new) (left_since self.old) (left_since self.new)
+            (during (SaysSome bytes.now) (left_since self.old (moment self.old))) }
         ensures clock { moment self.new ≡ counted (moment self.old) }
         ensures faults { NeverFell (faults self.old) (faults self.new) }
         ensures failed { OnErr result (Rose (faults self.old).say (faults self.new).say) };
+
+    /// The moments since a later one are among those since an earlier.
+    ghost longer: { (host : Self) (t u : ℕ) (c : Contents) → t ≤ u → left_since host u c → left_since host t c };
+
+    /// What a read gives now is one of the things that a crash now may leave.
+    ghost now_left: { (host : Self) (c : Contents) → told host ≡ Some c → left_since host (moment host) c };
+
+    /// A crash leaves all that was said.
+    ghost said_stays: { (host : Self) (now c : Contents) → told host ≡ Some now → left_since host (moment host) c → c.said ≡ now.said };
 }

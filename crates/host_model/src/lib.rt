@@ -2,7 +2,9 @@
 #![tactic(auto)]
 
 mod host;
+mod order;
 mod source;
 
 pub use host::{FileNo, Host, HostFailed};
+pub use order::{store, store_and_tell};
 pub use source::{Source, SourceFailed};

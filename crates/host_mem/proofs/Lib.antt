@@ -1,0 +1,5 @@
+pub mod DriveLemmas
+pub mod StateLemmas
+pub mod CallLemmas
+pub mod CrashLemmas
+pub mod ReplayLemmas
