@@ -1,0 +1,187 @@
+-- Laws of the ends of keys, and of the leading bytes that keys share.
+use Rattle.std.proofs.Common.{ℕ, zero, suc, ◌≡◌, ◌+◌, ◌≤◌, ◌<◌, Bool, true, false, cond, List, [], ◌∷◌, ◌++◌, length, get_or, take, drop, Option, Some, None, ◌⊎◌, inl, inr, refl, sym, ◌∙◌, ap, subst, arith, length-take}
+use Rattle.std.specs.Prelude.{◌&&◌, ◌==◌, nat_eq, option_map, slice_get}
+use Rattle.std.specs.Ordering.{nat_cmp}
+use Rattle.std.specs.Cmp.Lexicographic.{slice_cmp}
+use Rattle.std.specs.declared.cmp.Ordering.TheVariants.{Less}
+use Rattle.std.proofs.Math.Numerals.{one-add}
+use Rattle.std.proofs.lemmas.Bool.{eqb-true, ne_eqb, cases_lt}
+use Rattle.std.proofs.lemmas.Cmp.{nat_list_cmp_total, tied_itself}
+use Rattle.std.proofs.lemmas.List.{drop_all, take_all, take-append-drop}
+use Rattle.std.proofs.lemmas.List.Sums.{common_prefix_len-le, common_prefix_len-drop_no}
+use Rattle.gds_pack.specs.Key.{key_len, end_in, zero_after, IsKey, HasOpenFronts, shared}
+
+-- ---- the shared bytes
+
+pub shared-nil : (a : List ℕ) → shared a [] ≡ 0
+shared-nil [] = refl
+shared-nil (x ∷ a) = refl
+
+pub shared-past : (a b : List ℕ) (i : ℕ) → length b ≤ i → shared (drop i a) (drop i b) ≡ 0
+shared-past a b i h = rw (drop_all i b h) (shared-nil (drop i a))
+
+pub shared-apart : (a b : List ℕ) (i : ℕ) → i < length a → i < length b → (get_or a i 0 ≡ get_or b i 0 → ⊥) → shared (drop i a) (drop i b) ≡ 0
+shared-apart a b i h k ne = common_prefix_len-drop_no nat_eq a b i 0 0 h k (ne_eqb _ _ ne)
+
+pub shared-le : (a b : List ℕ) → (shared a b ≤ length a) × (shared a b ≤ length b)
+shared-le a b = common_prefix_len-le nat_eq a b
+
+take_step : (t : Bool) (s x y : ℕ) (a b : List ℕ) → (t ≡ true → x ≡ y) → take s a ≡ take s b → take (cond t (1 + s) 0) (x ∷ a) ≡ take (cond t (1 + s) 0) (y ∷ b)
+take_step true s x y a b h k =
+    let e = h refl in
+    rw one-add (cc)
+take_step false s x y a b h k = refl
+
+-- The shared bytes are those of both keys.
+pub take-shared : (a b : List ℕ) → take (shared a b) a ≡ take (shared a b) b
+take-shared [] b = refl
+take-shared (x ∷ a) [] = refl
+take-shared (x ∷ a) (y ∷ b) = take_step (nat_eq x y) (shared a b) x y a b (eqb-true x y) (take-shared a b)
+
+-- ---- the ends
+
+cond_suc : (t : Bool) (n : ℕ) (o p : Option ℕ) → o ≡ p → cond t (Some (suc n)) (option_map suc o) ≡ option_map suc (cond t (Some n) p)
+cond_suc true n o p e = refl
+cond_suc false n o p e = ap (option_map suc) e
+
+pub key_len-cons : (b : ℕ) (bytes : List ℕ) → key_len (b ∷ bytes) ≡ option_map suc (end_in (b == 0) bytes)
+key_len-cons b [] = refl
+key_len-cons b (c ∷ bytes) = cond_suc ((b == 0) && (c == 0)) 1 _ _ (key_len-cons c bytes)
+
+pub key_len-end_in : (bytes : List ℕ) → key_len bytes ≡ end_in false bytes
+key_len-end_in [] = refl
+key_len-end_in (b ∷ bytes) = key_len-cons b bytes
+
+none_step : (t : Bool) (o : Option ℕ) → cond t (Some 1) (option_map suc o) ≡ None → (t ≡ false) × (o ≡ None)
+none_step true o h = absurd (cc)
+none_step false None h = (refl, refl)
+none_step false (Some n) h = absurd (cc)
+
+record Steps (t : Bool) (o : Option ℕ) (n : ℕ) : Type 0 where
+  open_still : t ≡ false
+  tail : ℕ
+  found : o ≡ Some tail
+  more : n ≡ suc tail
+
+some_step : (t : Bool) (o : Option ℕ) (n : ℕ) → cond t (Some 1) (option_map suc o) ≡ Some n → ((t ≡ true) × (n ≡ 1)) ⊎ Steps t o n
+some_step true o n h = inl (refl, cc)
+some_step false None n h = absurd (cc)
+some_step false (Some k) n h = inr (record { open_still = refl; tail = k; found = refl; more = cc })
+
+option_map-zero : (o : Option ℕ) → option_map (λ n. 0 + n) o ≡ o
+option_map-zero None = refl
+option_map-zero (Some n) = ap Some (omega arith)
+
+option_map-suc : (k : ℕ) (o : Option ℕ) → option_map suc (option_map (λ n. k + n) o) ≡ option_map (λ n. suc k + n) o
+option_map-suc k None = refl
+option_map-suc k (Some n) = ap Some (omega arith)
+
+still_open : (t : Bool) (o p : Option ℕ) → t ≡ false → o ≡ p → cond t (Some 1) (option_map suc o) ≡ option_map suc p
+still_open true o p h e = absurd (cc)
+still_open false o p h e = ap (option_map suc) e
+
+-- Bytes with no end among them leave the end to what follows.
+pub end_in-append_open : (front body : List ℕ) (z : Bool) → end_in z front ≡ None → end_in z (front ++ body) ≡ option_map (λ n. length front + n) (end_in (zero_after z front) body)
+end_in-append_open [] body z h = sym (option_map-zero (end_in z body))
+end_in-append_open (b ∷ front) body z h =
+    let e = none_step (z && (b == 0)) (end_in (b == 0) front) h in
+    still_open (z && (b == 0)) _ _ e.0 (end_in-append_open front body (b == 0) e.1) ∙ option_map-suc (length front) (end_in (zero_after (b == 0) front) body)
+
+-- An end among bytes stays one whatever follows.
+pub end_in-append_found : (front body : List ℕ) (z : Bool) (n : ℕ) → end_in z front ≡ Some n → end_in z (front ++ body) ≡ Some n
+end_in-append_found [] body z n h = absurd (cc)
+end_in-append_found (b ∷ front) body z n h =
+    elim (some_step (z && (b == 0)) (end_in (b == 0) front) n h) [
+      | inl e ↦ rw e.0 (ap Some (sym e.1))
+      | inr e ↦ still_open (z && (b == 0)) _ _ e.open_still (end_in-append_found front body (b == 0) e.tail e.found) ∙ ap Some (sym e.more)
+    ]
+
+pub end_in-within : (bytes : List ℕ) (z : Bool) (n : ℕ) → end_in z bytes ≡ Some n → n ≤ length bytes
+end_in-within [] z n h = absurd (cc)
+end_in-within (b ∷ bytes) z n h =
+    elim (some_step (z && (b == 0)) (end_in (b == 0) bytes) n h) [
+      | inl e ↦ omega (arith, e.1)
+      | inr e ↦ omega (arith, e.more, end_in-within bytes (b == 0) e.tail e.found)
+    ]
+
+-- No shorter front has an end, and the front up to the end has it.
+pub end_in-take_less : (bytes : List ℕ) (z : Bool) (n m : ℕ) → end_in z bytes ≡ Some n → m < n → end_in z (take m bytes) ≡ None
+end_in-take_less [] z n m h k = absurd (cc)
+end_in-take_less (b ∷ bytes) z n zero h k = refl
+end_in-take_less (b ∷ bytes) z n (suc m) h k =
+    elim (some_step (z && (b == 0)) (end_in (b == 0) bytes) n h) [
+      | inl e ↦ absurd (omega (arith, e.1))
+      | inr e ↦ still_open (z && (b == 0)) _ None e.open_still (end_in-take_less bytes (b == 0) e.tail m e.found (omega (arith, e.more)))
+    ]
+
+pub end_in-take_same : (bytes : List ℕ) (z : Bool) (n : ℕ) → end_in z bytes ≡ Some n → end_in z (take n bytes) ≡ Some n
+end_in-take_same [] z n h = absurd (cc)
+end_in-take_same (b ∷ bytes) z n h =
+    elim (some_step (z && (b == 0)) (end_in (b == 0) bytes) n h) [
+      | inl e ↦ rw (e.1, e.0) refl
+      | inr e ↦ rw e.more (still_open (z && (b == 0)) _ (Some e.tail) e.open_still (end_in-take_same bytes (b == 0) e.tail e.found))
+    ]
+
+-- ---- keys
+
+pub key_len-append : (key rest : List ℕ) (n : ℕ) → key_len key ≡ Some n → key_len (key ++ rest) ≡ Some n
+key_len-append key rest n h = key_len-end_in (key ++ rest) ∙ end_in-append_found key rest false n (sym (key_len-end_in key) ∙ h)
+
+pub key_len-within : (bytes : List ℕ) (n : ℕ) → key_len bytes ≡ Some n → n ≤ length bytes
+key_len-within bytes n h = end_in-within bytes false n (sym (key_len-end_in bytes) ∙ h)
+
+pub HasOpenFronts-nil : HasOpenFronts []
+HasOpenFronts-nil n h = absurd (omega arith)
+
+-- The bytes up to the end of a key are a key, and no shorter front of them is.
+pub HasOpenFronts-take : (bytes : List ℕ) (n : ℕ) → key_len bytes ≡ Some n → HasOpenFronts (take n bytes)
+HasOpenFronts-take bytes n h m k =
+    let found : end_in false bytes ≡ Some n = sym (key_len-end_in bytes) ∙ h in
+    let same : end_in false (take n bytes) ≡ Some n = end_in-take_same bytes false n found in
+    let less : m < n = omega (arith, length-take n bytes) in
+    key_len-end_in (take m (take n bytes)) ∙ end_in-take_less (take n bytes) false n m same less
+
+-- a key with a key as its front is that key
+front_key : (a b : List ℕ) → IsKey a → IsKey b → (n : ℕ) → n ≡ length a → take n b ≡ a → a ≡ b
+front_key a b p q n long e =
+    let whole : a ++ drop n b ≡ b = ap (λ xs. xs ++ drop n b) (sym e) ∙ take-append-drop n b in
+    let ends : key_len b ≡ Some (length a) = ap key_len (sym whole) ∙ key_len-append a (drop n b) (length a) p.whole in
+    let same : Some (length a) ≡ Some (length b) = sym ends ∙ q.whole in
+    let lengths : length a ≡ length b = cc in
+    sym e ∙ take_all n b (omega arith)
+
+not_less : (a b : List ℕ) → a ≡ b → slice_cmp nat_cmp a b ≡ Less → ⊥
+not_less a b e h =
+    let tied = tied_itself nat_list_cmp_total a in
+    let below : slice_cmp nat_cmp a a ≡ Less = subst (λ (x : List ℕ). slice_cmp nat_cmp a x ≡ Less) (sym e) h in
+    absurd (cc)
+
+-- Keys that rise share fewer bytes than either has.
+pub shared-below : (a b : List ℕ) → IsKey a → IsKey b → slice_cmp nat_cmp a b ≡ Less → (shared a b < length a) × (shared a b < length b)
+shared-below a b p q less =
+    let le = shared-le a b in
+    let t = take-shared a b in (
+      elim (cases_lt (shared a b) (length a)) [
+        | inl h ↦ h
+        | inr h ↦ absurd (not_less a b (front_key a b p q (shared a b) (omega arith) (sym t ∙ take_all (shared a b) a h)) less)
+      ],
+      elim (cases_lt (shared a b) (length b)) [
+        | inl h ↦ h
+        | inr h ↦ absurd (not_less a b (sym (front_key b a q p (shared a b) (omega arith) (t ∙ take_all (shared a b) b h))) less)
+      ],
+    )
+
+pub length-key : (key : List ℕ) → IsKey key → 0 < length key
+length-key [] p =
+    let whole = p.whole in
+    absurd (cc)
+length-key (b ∷ key) p = omega arith
+
+pub zero_after-last : (bytes : List ℕ) (before : Bool) (n b : ℕ) → n + 1 ≡ length bytes → slice_get bytes n ≡ Some b → zero_after before bytes ≡ (b == 0)
+zero_after-last [] before n b h k = absurd (omega arith)
+zero_after-last (x ∷ []) before zero b h k =
+    let same : x ≡ b = cc in
+    ap (λ y. y == 0) same
+zero_after-last (x ∷ []) before (suc n) b h k = absurd (omega arith)
+zero_after-last (x ∷ y ∷ bytes) before zero b h k = absurd (omega arith)
+zero_after-last (x ∷ y ∷ bytes) before (suc n) b h k = zero_after-last (y ∷ bytes) (x == 0) n b (omega arith) k

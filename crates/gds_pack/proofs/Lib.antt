@@ -1,0 +1,8 @@
+pub mod KeyLaws
+pub mod SizeLaws
+pub mod PackLaws
+pub mod ReadLaws
+pub mod UnpackLaws
+pub mod CutLaws
+pub mod BoundLaws
+pub mod ListLaws

@@ -1,0 +1,5 @@
+use Rattle.gds_pack.proofs.BoundLaws.{packed_size-joined}
+use Rattle.gds_pack.proofs.laws.joined_size.Goals as goal
+
+pub returns : goal.returns
+returns c = packed_size-joined

@@ -1,0 +1,5 @@
+use Rattle.gds_pack.proofs.BoundLaws.{CanBeCut-three}
+use Rattle.gds_pack.proofs.laws.three_runs.Goals as goal
+
+pub returns : goal.returns
+returns c = CanBeCut-three

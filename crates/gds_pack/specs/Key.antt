@@ -1,0 +1,32 @@
+-- The ends of keys, and what neighbouring keys share.
+use Rattle.std.specs.Prelude.{ℕ, suc, ◌≡◌, ◌≤◌, ◌<◌, Bool, ◌==◌, ◌&&◌, nat_eq, if◌then◌else◌, List, [], ◌∷◌, length, take, Option, Some, None, option_map}
+use Rattle.std.specs.List.{common_prefix_len}
+
+-- how many bytes there are up to the first two neighbouring zero bytes, both included, where there are two
+abbrev pub key_len : List ℕ → Option ℕ
+key_len [] = None
+key_len (b ∷ []) = None
+key_len (b ∷ c ∷ bytes) = if (b == 0) && (c == 0) then Some 2 else option_map suc (key_len (c ∷ bytes))
+
+-- These bytes end with their first two neighbouring zero bytes, and there are at most 255 of them.
+pub record IsKey (bytes : List ℕ) : Type 0 where
+  pub whole : key_len bytes ≡ Some (length bytes)
+  pub short : length bytes ≤ 255
+
+-- No front of these bytes but the whole has two neighbouring zero bytes. So it is with a key, and with none.
+abbrev pub HasOpenFronts : List ℕ → Type 0
+HasOpenFronts bytes = (n : ℕ) → n < length bytes → key_len (take n bytes) ≡ None
+
+-- the same as key_len, of bytes that stand behind a zero byte or behind none
+abbrev pub end_in : Bool → List ℕ → Option ℕ
+end_in after_zero [] = None
+end_in after_zero (b ∷ bytes) = if after_zero && (b == 0) then Some 1 else option_map suc (end_in (b == 0) bytes)
+
+-- whether a zero byte stands before what follows these bytes
+abbrev pub zero_after : Bool → List ℕ → Bool
+zero_after before [] = before
+zero_after before (b ∷ bytes) = zero_after (b == 0) bytes
+
+-- how many leading bytes two keys share
+abbrev pub shared : List ℕ → List ℕ → ℕ
+shared a b = common_prefix_len nat_eq a b

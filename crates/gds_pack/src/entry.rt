@@ -1,0 +1,40 @@
+ghost use Rattle.std.specs.Prelude.{◌≡◌, ◌-◌, ◌^◌, ◌≤◌, length, min};
+ghost use Rattle.gds_pack.specs.Key.{shared};
+
+use m_key::Key;
+
+/// A key and what follows it in its record. The last entry of an index block is the star, whose key is empty.
+#[derive(Debug, PartialEq, Eq, Drop)]
+pub struct Entry {
+    /// The key, of which the last two bytes are its first two neighbouring zero bytes.
+    pub key: Key,
+    /// A value, or in an index block a pointer of 4 bytes.
+    pub rest: Vec<u8>,
+}
+
+impl Entry {
+    ghost use Rattle.gds_pack.specs.Seen.{item};
+    ghost use Rattle.gds_pack.specs.Packed.{record_size};
+
+    // The size of its record behind a key, at most 2^64 - 1.
+    pub(crate) fn record_size(&self, previous: &[u8]) -> u64
+        ensures { result ≡ min (record_size previous.now (item self.now)) (2 ^ 64 - 1) }
+    {
+        let key = self.key.len() - shared_len(previous, self.key.as_slice());
+        (4 + key as u64).saturating_add(self.rest.len() as u64)
+    }
+}
+
+// How many leading bytes two keys share.
+pub(crate) fn shared_len(a: &[u8], b: &[u8]) -> usize
+    ensures value { result ≡ shared a.now b.now }
+    ensures within_first { result ≤ length a.now }
+    ensures within_second { result ≤ length b.now }
+{
+    for (i, x) in a.iter().enumerate() {
+        if i == b.len() || *x != b[i] {
+            return i;
+        }
+    }
+    a.len()
+}
