@@ -1,0 +1,14 @@
+pub mod Begins
+pub mod Conditions
+pub mod Runs
+pub mod Found
+pub mod Fronts
+pub mod Quoted
+pub mod Separated
+pub mod Pieces
+pub mod Numbers
+pub mod Values
+pub mod WrittenLemmas
+pub mod SubscriptLemmas
+pub mod ReferenceLemmas
+pub mod OneReference

@@ -1,0 +1,5 @@
+use Rattle.m_text.proofs.Values.{one_value_lem}
+use Rattle.m_text.proofs.laws.one_value.Goals as goal
+
+pub returns : goal.returns
+returns c = one_value_lem

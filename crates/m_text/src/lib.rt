@@ -1,0 +1,18 @@
+//! The texts of values and references, both ways, and the texts of extracts.
+#![tactic(auto)]
+
+mod laws;
+mod printing;
+mod quoting;
+mod reading;
+mod reference;
+mod subscripts;
+mod value;
+
+pub use laws::{one_reference, one_value, written_reference, written_value};
+pub use printing::{print_reference, print_value};
+pub use reference::read_reference;
+pub use value::read_value;
+
+#[cfg(test)]
+mod tests;
