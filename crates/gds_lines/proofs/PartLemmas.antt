@@ -1,9 +1,9 @@
 -- Parts of a list between two places.
-use Rattle.std.proofs.Common.{◌≡◌, ℕ, ◌+◌, ◌-◌, ◌<◌, ◌≤◌, min, true, false, cond, eqb, List, ◌++◌, length, get_or, take, drop, slice_range, refl, sym, ap, ◌∙◌, arith, ⊎_elim, length-take-le}
+use Rattle.std.proofs.Common.{◌≡◌, ℕ, ◌+◌, ◌-◌, ◌≤◌, min, true, false, cond, eqb, List, ◌++◌, length, get_or, take, drop, slice_range, sym, ap, ◌∙◌, arith, ⊎_elim, length-take-le}
 use Rattle.std.proofs.Math.Seq.{take-add}
 use Rattle.std.proofs.lemmas.Bool.{cases_lt}
 use Rattle.std.proofs.lemmas.Slice.{between_is}
-use Rattle.std.proofs.lemmas.List.{take-take, take_all, drop-drop, drop-take, take-append-le, drop-append-le, length-drop, length-take, take-append-drop, drop_at, append_assoc}
+use Rattle.std.proofs.lemmas.List.{take-take, take_all, drop-drop, drop-take, length-take}
 use Rattle.std.specs.Str.Lines.{strip_carriage_return}
 
 length-take_most : {X : Type 0} (n m : ℕ) (xs : List X) → n ≤ m → length (take n xs) ≤ m

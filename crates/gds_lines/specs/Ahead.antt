@@ -1,6 +1,5 @@
 -- The bytes that were taken from a source and not yet given, and what is left of a text.
 use Rattle.std.specs.Prelude.{ℕ, List, slice_range, Option}
-use Rattle.std.specs.Option.{option_map}
 use Rattle.std.specs.Io.KnownBytes.{prepend_known}
 use Rattle.gds_lines.specs.declared.ahead.Ahead.{Ahead}
 use Rattle.gds_lines.specs.declared.ahead.Span.{Span}

@@ -1,4 +1,4 @@
-use Rattle.std.proofs.Common.{ℕ, ◌+◌, ◌-◌, ◌≤◌, ◌^◌, length}
+use Rattle.std.proofs.Common.{◌+◌, ◌-◌, ◌≤◌, ◌^◌, length}
 use Rattle.host_model.specs.Told.{GoesOn}
 use Rattle.gds_lines.specs.Lines.{line_len}
 use Rattle.gds_lines.specs.Ahead.{held, text_left}

@@ -1,5 +1,4 @@
-use Rattle.std.proofs.Common.{◌≤◌, None, Some, arith}
-use Rattle.gds_lines.specs.Lines.{line_len}
+use Rattle.std.proofs.Common.{None, Some, arith}
 use Rattle.gds_lines.proofs.LineLemmas.{line_len-le, line_len-searched_from}
 use Rattle.gds_lines.proofs.scan.line_end.Goals as goal
 

@@ -1,8 +1,8 @@
-use Rattle.std.proofs.Common.{arith, ◌-◌, ◌+◌, ◌≤◌, ◌<◌, length, take, drop, ◌≡◌, ap, sym, ◌∙◌, Some, slice_range, length-take}
+use Rattle.std.proofs.Common.{arith, ◌-◌, ◌+◌, ◌≤◌, length, take, drop, ◌≡◌, ap, sym, ◌∙◌, Some, length-take}
 use Rattle.std.proofs.lemmas.List.{take-take}
 use Rattle.std.proofs.lemmas.List.Edits.{length-between}
 use Rattle.std.specs.Str.Lines.{strip_carriage_return}
-use Rattle.gds_lines.specs.Lines.{line_len, given}
+use Rattle.gds_lines.specs.Lines.{given}
 use Rattle.gds_lines.proofs.PartLemmas.{slice_range-rest, slice_range-front}
 use Rattle.gds_lines.proofs.LineLemmas.{next_line-ended}
 use Rattle.gds_lines.specs.Ahead.{held}

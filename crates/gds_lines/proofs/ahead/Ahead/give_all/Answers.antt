@@ -1,4 +1,4 @@
-use Rattle.std.proofs.Common.{arith, ◌-◌, ◌+◌, ◌<◌, length, ◌≡◌, ap, sym, ◌∙◌, slice_range, min, Some}
+use Rattle.std.proofs.Common.{arith, ◌-◌, ◌+◌, length, ◌≡◌, ap, sym, ◌∙◌, slice_range, min, Some}
 use Rattle.std.proofs.lemmas.List.Edits.{length-between}
 use Rattle.gds_lines.proofs.LineLemmas.{next_line-unended}
 use Rattle.gds_lines.proofs.PartLemmas.{slice_range-cut}

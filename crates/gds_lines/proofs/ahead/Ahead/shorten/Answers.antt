@@ -1,4 +1,4 @@
-use Rattle.std.proofs.Common.{sym, arith, ◌-◌, length, ◌≤◌}
+use Rattle.std.proofs.Common.{sym, arith, length, ◌≤◌}
 use Rattle.std.proofs.lemmas.List.{take_all}
 use Rattle.std.proofs.lemmas.List.Edits.{length-between}
 use Rattle.gds_lines.specs.Ahead.{held}
