@@ -39,11 +39,37 @@ fn reads_files(rt: HostRuntime) -> Result<(), Fail> {
 }
 
 #[test]
+fn writes_files(rt: HostRuntime) -> Result<(), Fail> {
+    let path = own_path(&rt)?;
+    let path = format!(in rt.alloc(); "{path}.new")?;
+    let mut host = FileHost::new(&rt, rt.alloc(), path.as_str())?;
+    let mut out = [b'.'; 8];
+    let missing = (host.sync(FileNo::Db), host.cut(FileNo::Db, 0));
+    let made = host.write_at(FileNo::Db, 0, b"0123456");
+    let longer = host.write_at(FileNo::Db, 5, b"abc");
+    let cut = host.cut(FileNo::Db, 7);
+    let synced = host.sync(FileNo::Db);
+    let length = host.len(FileNo::Db);
+    let read = host.read(FileNo::Db, 0, &mut out);
+    fs::remove_file(&rt, path.as_str())?;
+    assert_eq!(rt; missing, (Ok(()), Ok(())));
+    assert_eq!(rt; made, Ok(()));
+    assert_eq!(rt; longer, Ok(()));
+    assert_eq!(rt; cut, Ok(()));
+    assert_eq!(rt; synced, Ok(()));
+    assert_eq!(rt; length, Ok(7));
+    assert_eq!(rt; read, Ok(7));
+    assert_eq!(rt; out, *b"01234ab.");
+    Ok(())
+}
+
+#[test]
 fn fails_on_a_directory(rt: HostRuntime) -> Result<(), Fail> {
     let mut host = FileHost::new(&rt, rt.alloc(), "/")?;
     let mut out = [b'.'; 4];
     assert_eq!(rt; host.len(FileNo::Db), Err(HostFailed));
     assert_eq!(rt; host.read(FileNo::Db, 0, &mut out), Err(HostFailed));
+    assert_eq!(rt; host.write_at(FileNo::Db, 0, b"x"), Err(HostFailed));
     Ok(())
 }
 
