@@ -1,6 +1,6 @@
 -- How a reply is said over a host that may tell.
-use Rattle.std.proofs.Common.{◌≡◌, ℕ, List, [], ◌++◌, Option, None, Some, IfSome, sym, subst, ◌∙◌, ap, append-nil}
-use Rattle.host_model.specs.Files.{Contents, saying}
+use Rattle.std.proofs.Common.{◌≡◌, ℕ, List, Option, None, Some, IfSome, sym, subst, ◌∙◌, ap, append-nil}
+use Rattle.host_model.specs.Files.{Contents}
 use Rattle.host_model.specs.Told.{GoesOn}
 use Rattle.gds_header.specs.declared.kind.HeaderKind.{HeaderKind}
 use Rattle.gds_header.specs.Kinds.{ending_kind}

@@ -1,11 +1,14 @@
 -- What each command says and how it ends.
-use Rattle.std.specs.Prelude.{◌≡◌, ℕ, Bool, true, false, MatchBool, List, [], ◌∷◌, ◌++◌, take, Option, Some, None, Result, Ok, Err, codes}
+use Rattle.std.specs.Prelude.{◌≡◌, ◌⊎◌, ℕ, Bool, true, false, MatchBool, List, [], ◌∷◌, ◌++◌, take, Option, Some, None, Result, Ok, Err, codes}
 use Rattle.std.specs.Fmt.{decimal}
 use Rattle.host_model.specs.Files.{Contents, saying}
 use Rattle.gds_header.specs.declared.kind.HeaderKind.{HeaderKind}
 use Rattle.gds_header.specs.Kinds.{name_of, ending_kind}
+use Rattle.m_key.specs.Globals.{Globals}
+use Rattle.m_text.specs.Extract.{zwr}
+use Rattle.gds_cli.specs.Thin.{IsThinWith}
 use Rattle.gds_cli.specs.declared.words.Command.{Command}
-use Rattle.gds_cli.specs.declared.words.Command.TheVariants.{Version, Integ}
+use Rattle.gds_cli.specs.declared.words.Command.TheVariants.{Version, Integ, Extract}
 use Rattle.gds_cli.specs.declared.words.BadWords.{BadWords}
 use Rattle.gds_cli.specs.declared.status.Status.{Status}
 use Rattle.gds_cli.specs.declared.status.Status.TheVariants as ended
@@ -19,16 +22,27 @@ pub record Reply : Type 0 where
 abbrev pub line : List ℕ → List ℕ
 line text = text ++ 10 ∷ []
 
+-- the command isn't built yet for these files
+abbrev pub not_built : Reply
+not_built = record { text = line (codes "NOTBUILT"); status = ended.NotBuilt }
+
 -- The header kind that ends the reading is the one fault that is told. A header without one isn't read on yet.
 abbrev pub header_reply : Option HeaderKind → Reply
 header_reply (Some kind) = record { text = line (name_of kind ++ codes " file") ++ line (codes "FAULTS 1"); status = ended.Unsound }
-header_reply None = record { text = line (codes "NOTBUILT"); status = ended.NotBuilt }
+header_reply None = not_built
 
--- what is due for the words over this database file
-abbrev pub reply_of : Result Command BadWords → List ℕ → Reply
-reply_of (Err bad) db = record { text = line (codes "BADWORDS " ++ decimal bad.place); status = ended.BadWords }
-reply_of (Ok Version) db = record { text = line (codes "GDSPROF1"); status = ended.Done }
-reply_of (Ok Integ) db = header_reply (ending_kind db)
+-- An extract says the text of the map that thin files stand for. For other files it isn't built.
+abbrev pub ExtractDue : List ℕ → Contents → Reply → Type 0
+ExtractDue stamp c reply =
+    ((m : Globals) × IsThinWith c.db c.images m × (reply ≡ record { text = zwr m stamp; status = ended.Done }))
+    ⊎ (((m : Globals) → IsThinWith c.db c.images m → ⊥) × (reply ≡ not_built))
+
+-- what is due for the words over what the host holds
+abbrev pub Due : Result Command BadWords → Contents → Reply → Type 0
+Due (Err bad) c reply = reply ≡ record { text = line (codes "BADWORDS " ++ decimal bad.place); status = ended.BadWords }
+Due (Ok Version) c reply = reply ≡ record { text = line (codes "GDSPROF1"); status = ended.Done }
+Due (Ok Integ) c reply = reply ≡ header_reply (ending_kind c.db)
+Due (Ok (Extract stamp)) c reply = ExtractDue stamp.items c reply
 
 -- Which endings the words may have, whatever the device does. Only a database file that is read can meet
 -- a read fault or change, and only a text that is put together wants memory.
@@ -42,7 +56,19 @@ MayEnd (Ok Integ) ended.NotBuilt = Unit {0}
 MayEnd (Ok Integ) ended.Changed = Unit {0}
 MayEnd (Ok Integ) ended.ReadFault = Unit {0}
 MayEnd (Ok Integ) ended.Memory = Unit {0}
+MayEnd (Ok (Extract stamp)) ended.Done = Unit {0}
+MayEnd (Ok (Extract stamp)) ended.NotBuilt = Unit {0}
+MayEnd (Ok (Extract stamp)) ended.Changed = Unit {0}
+MayEnd (Ok (Extract stamp)) ended.ReadFault = Unit {0}
+MayEnd (Ok (Extract stamp)) ended.Memory = Unit {0}
 MayEnd command other = ⊥
+
+-- the commands that read no file, so that they ask the host for their saying alone
+abbrev pub ReadsNoFile : Result Command BadWords → Type 0
+ReadsNoFile (Err bad) = Unit {0}
+ReadsNoFile (Ok Version) = Unit {0}
+ReadsNoFile (Ok Integ) = ⊥
+ReadsNoFile (Ok (Extract stamp)) = ⊥
 
 -- a front of the text was said, and both files stayed
 abbrev pub SaysFront : List ℕ → Contents → Contents → Type 0
@@ -60,3 +86,11 @@ is_break other = false
 abbrev pub Answers : Reply → Status → Contents → Contents → Type 0
 Answers reply status before after =
     MatchBool (is_break status) (SaysFront reply.text before after) ((status ≡ reply.status) × (after ≡ saying before reply.text))
+
+-- How a call ends over a host that tells, where one of these replies is due: it is said, whole, and its status given. At
+-- a break some bytes were said, which are a front of the reply that is due. Both files stay.
+abbrev pub Ends : (Reply → Type 0) → Status → Contents → Contents → Type 0
+Ends due status before after =
+    MatchBool (is_break status)
+    ((said : List ℕ) × (after ≡ saying before said) × ((reply : Reply) → due reply → (n : ℕ) × (said ≡ take n reply.text)))
+    ((reply : Reply) × due reply × (status ≡ reply.status) × (after ≡ saying before reply.text))

@@ -3,11 +3,12 @@ ghost use Rattle.host_model.specs.Faults.{NeverFell, NoneRose, Rose, counted};
 ghost use Rattle.host_model.specs.Told.{GoesOn};
 ghost use Rattle.host_model.specs.Files.{saying};
 ghost use Rattle.gds_cli.specs.Words.{command_of};
-ghost use Rattle.gds_cli.specs.Answer.{reply_of, header_reply, is_break, Answers, MayEnd};
+ghost use Rattle.gds_cli.specs.Answer.{Reply, header_reply, is_break, Answers, Due, Ends, ExtractDue, MayEnd, ReadsNoFile};
 ghost use Rattle.gds_header.specs.Kinds.{ending_kind};
 
 use crate::header::{Unread, ending_kind};
 use crate::status::Status;
+use crate::thin::{self, Trouble};
 use crate::words::{BadWords, Command, read_words};
 use host_model::{Host, Source};
 use std::alloc::Global;
@@ -30,20 +31,20 @@ pub fn gds<H: Host, I: Source>(
     // Over a host that tells: the reply is said, or a front of it where a fault or want of memory came.
     // Both files stay.
     ensures told { GoesOn (H.told host) (H.told result.host) (λ before after.
-        Answers (reply_of (command_of (map string_bytes words.now)) before.db) result.status before after) }
+        Ends (Due (command_of (map string_bytes words.now)) before) result.status before after) }
     // Where no fault came either, the whole reply is said, or memory ran out.
     ensures complete { NoneRose (H.faults host) (H.faults result.host) → IfSome (H.told host) (λ before.
-        let reply = reply_of (command_of (map string_bytes words.now)) before.db in
         (result.status ≡ Status.Memory)
-        ⊎ ((result.status ≡ reply.status) × (H.told result.host ≡ Some (saying before reply.text)))) }
+        ⊎ ((reply : Reply) × Due (command_of (map string_bytes words.now)) before reply
+        × (result.status ≡ reply.status) × (H.told result.host ≡ Some (saying before reply.text)))) }
 
     // Over any host.
     ensures status { MayEnd (command_of (map string_bytes words.now)) result.status }
     ensures read_fault { result.status ≡ Status.ReadFault → Rose (H.faults host).read (H.faults result.host).read }
     ensures say_fault { result.status ≡ Status.SayFault → Rose (H.faults host).say (H.faults result.host).say }
     ensures faults { NeverFell (H.faults host) (H.faults result.host) }
-    // But for a check of the file a call asks the host for its saying alone.
-    ensures one_call { command_of (map string_bytes words.now) ≢ Ok Command.Integ → result.status ≢ Status.Memory
+    // A call that reads no file asks the host for its saying alone.
+    ensures one_call { ReadsNoFile (command_of (map string_bytes words.now)) → result.status ≢ Status.Memory
         → H.moment result.host ≡ counted (H.moment host) }
     ensures input { result.input ≡ input }
 {
@@ -58,19 +59,42 @@ pub fn gds<H: Host, I: Source>(
 /// Does what the words ask for, and says the answer.
 fn answer<H: Host>(alloc: Global, words: &[String], host: &mut H) -> Status
     ensures told { GoesOn (H.told host.old) (H.told host.new) (λ before after.
-        Answers (reply_of (command_of (map string_bytes words.now)) before.db) result before after) }
+        Ends (Due (command_of (map string_bytes words.now)) before) result before after) }
     ensures status { MayEnd (command_of (map string_bytes words.now)) result }
     ensures read_fault { result ≡ Status.ReadFault → Rose (H.faults host.old).read (H.faults host.new).read }
     ensures say_fault { result ≡ Status.SayFault → Rose (H.faults host.old).say (H.faults host.new).say }
     ensures faults { NeverFell (H.faults host.old) (H.faults host.new) }
-    ensures one_call { command_of (map string_bytes words.now) ≢ Ok Command.Integ → result ≢ Status.Memory
+    ensures one_call { ReadsNoFile (command_of (map string_bytes words.now)) → result ≢ Status.Memory
         → H.moment host.new ≡ counted (H.moment host.old) }
 {
     match read_words(words) {
         Ok(Command::Version) => say(host, "GDSPROF1\n", Status::Done),
         Ok(Command::Integ) => integ(alloc, host),
+        Ok(Command::Extract { stamp }) => extract(alloc, host, &stamp),
         Err(BadWords { place }) => match format!(in alloc; "BADWORDS {place}\n") {
             Ok(text) => say(host, text.as_str(), Status::BadWords),
+            Err(_) => Status::Memory,
+        },
+    }
+}
+
+/// Says the extract of thin files, and of others that they aren't built yet.
+fn extract<H: Host>(alloc: Global, host: &mut H, stamp: &[u8]) -> Status
+    ensures told { GoesOn (H.told host.old) (H.told host.new) (λ before after.
+        Ends (ExtractDue stamp.now before) result before after) }
+    ensures status { MayEnd (Ok (Command.Extract (record { items = stamp.now }))) result }
+    ensures read_fault { result ≡ Status.ReadFault → Rose (H.faults host.old).read (H.faults host.new).read }
+    ensures say_fault { result ≡ Status.SayFault → Rose (H.faults host.old).say (H.faults host.new).say }
+    ensures faults { NeverFell (H.faults host.old) (H.faults host.new) }
+{
+    match thin::extract(alloc, host, stamp) {
+        Ok(true) => Status::Done,
+        Ok(false) => say(host, "NOTBUILT\n", Status::NotBuilt),
+        Err(Trouble::Memory) => Status::Memory,
+        Err(Trouble::Read) => Status::ReadFault,
+        Err(Trouble::Say) => Status::SayFault,
+        Err(Trouble::Changed { unit }) => match format!(in alloc; "CHANGED {unit}\n") {
+            Ok(text) => say(host, text.as_str(), Status::Changed),
             Err(_) => Status::Memory,
         },
     }

@@ -3,11 +3,14 @@
 
 mod call;
 mod header;
+mod laws;
 mod status;
+mod thin;
 mod words;
 
 pub use call::{Ended, gds};
 use host_file::{FileHost, StdinSource};
+pub use laws::one_reply;
 pub use status::Status;
 use std::alloc::{AllocError, Global};
 use std::env;

@@ -1,15 +1,26 @@
-ghost use Rattle.std.specs.Prelude.{◌≡◌, map, string_bytes};
-ghost use Rattle.gds_cli.specs.Words.{command_of, command_named};
+ghost use Rattle.std.specs.Prelude.{◌≡◌, true, false, MatchOption, drop, map, string_bytes};
+ghost use Rattle.std.specs.List.{list_all};
+ghost use Rattle.m_text.specs.Written.{is_printable};
+ghost use Rattle.gds_cli.specs.Words.{command_of, alone, extract_of, leads_stamp, stamp_of};
 
+use arrayvec::ArrayVec;
 use thiserror::Error;
 
+/// The greatest length of an extract's stamp.
+const STAMP_MAX: usize = 64;
+
+/// How a word with a stamp begins.
+const STAMP_NAME: [u8; 7] = *b"-STAMP=";
+
 /// What the words of the command line ask for.
-#[derive(Clone, Copy, Debug, PartialEq, Eq)]
+#[derive(Debug, PartialEq, Eq, Drop)]
 pub enum Command {
     /// The name of the file format.
     Version,
     /// The faults of the database file.
     Integ,
+    /// The nodes that the files stand for, as a text with this stamp in its second line.
+    Extract { stamp: ArrayVec<u8, STAMP_MAX> },
 }
 
 /// The words are no command. `place` is that of the first word that no command goes on with, counted
@@ -20,29 +31,82 @@ pub struct BadWords {
     pub place: usize,
 }
 
-/// The command with this name, whatever the case of its ASCII letters.
-fn command_named(word: &str) -> Option<Command>
-    ensures { result ≡ command_named word.now }
-{
-    if word.eq_ignore_ascii_case("VERSION") {
-        Some(Command::Version)
-    } else if word.eq_ignore_ascii_case("INTEG") {
-        Some(Command::Integ)
-    } else {
-        None
-    }
-}
-
-/// The command that the words name, each of them alone so far.
+/// The command that the words name. Letters of its name and of a qualifier's may have any case.
 pub fn read_words(words: &[String]) -> Result<Command, BadWords>
     ensures { result ≡ command_of (map string_bytes words.now) }
 {
     let Some((name, rest)) = words.split_first() else {
         return Err(BadWords { place: 0 });
     };
-    match command_named(name.as_str()) {
-        None => Err(BadWords { place: 0 }),
-        Some(command) if rest.is_empty() => Ok(command),
-        Some(_) => Err(BadWords { place: 1 }),
+    let name = name.as_str();
+    if name.eq_ignore_ascii_case("VERSION") {
+        alone(Command::Version, rest)
+    } else if name.eq_ignore_ascii_case("INTEG") {
+        alone(Command::Integ, rest)
+    } else if name.eq_ignore_ascii_case("EXTRACT") {
+        read_extract(rest)
+    } else {
+        Err(BadWords { place: 0 })
     }
+}
+
+/// A command that has no words behind its name.
+fn alone(command: Command, rest: &[String]) -> Result<Command, BadWords>
+    ensures { result ≡ alone command (map string_bytes rest.now) }
+{
+    if rest.is_empty() {
+        Ok(command)
+    } else {
+        Err(BadWords { place: 1 })
+    }
+}
+
+/// An extract, from the words behind its name.
+fn read_extract(words: &[String]) -> Result<Command, BadWords>
+    ensures { result ≡ extract_of (map string_bytes words.now) }
+{
+    let Some((word, rest)) = words.split_first() else {
+        return Ok(Command::Extract {
+            stamp: ArrayVec::new(),
+        });
+    };
+    match stamp_of(word.as_str()) {
+        None => Err(BadWords { place: 1 }),
+        Some(stamp) if rest.is_empty() => Ok(Command::Extract { stamp }),
+        Some(_) => Err(BadWords { place: 2 }),
+    }
+}
+
+/// The stamp that a word gives, as it is written.
+fn stamp_of(word: &str) -> Option<ArrayVec<u8, STAMP_MAX>>
+    ensures { result ≡ stamp_of word.now }
+{
+    let text = stamp_text(word.as_bytes())?;
+    let mut stamp = ArrayVec::new();
+    if stamp.try_extend_from_slice(text).is_ok() {
+        Some(stamp)
+    } else {
+        None
+    }
+}
+
+/// What stands behind the name of a stamp, all of it printable.
+fn stamp_text(word: &[u8]) -> Option<&[u8]>
+    ensures { MatchOption result (leads_stamp word.now ≡ false) (λ text. (leads_stamp word.now ≡ true) × (text.now ≡ drop 7 word.now)) }
+{
+    if word.len() < STAMP_NAME.len() {
+        return None;
+    }
+    let (name, text) = word.split_at(STAMP_NAME.len());
+    if name.eq_ignore_ascii_case(&STAMP_NAME) && are_printable(text) {
+        Some(text)
+    } else {
+        None
+    }
+}
+
+fn are_printable(text: &[u8]) -> bool
+    ensures { result ≡ list_all is_printable text.now }
+{
+    text.iter().all(|b| *b >= 32 && *b <= 126)
 }

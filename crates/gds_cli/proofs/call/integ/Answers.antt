@@ -1,7 +1,7 @@
 use Rattle.std.proofs.lemmas.Grind.{common_steps}
-use Rattle.std.proofs.Common.{arith, ◌≡◌, List, ℕ, Some, ◌++◌, [], ◌∷◌, refl, sym, ◌∙◌, ap, codes, string_bytes}
+use Rattle.std.proofs.Common.{arith, ◌≡◌, List, ℕ, ◌++◌, sym, ◌∙◌, ap, codes}
 use Rattle.gds_header.specs.Kinds.{ending_kind, name_of}
-use Rattle.gds_cli.specs.Answer.{Reply, header_reply, line}
+use Rattle.gds_cli.specs.Answer.{header_reply, line}
 use Rattle.gds_cli.specs.declared.status.Status.TheVariants.{Unsound}
 use Rattle.gds_cli.proofs.Answering.{silent, found}
 use Rattle.gds_cli.proofs.call.integ.Goals as goal

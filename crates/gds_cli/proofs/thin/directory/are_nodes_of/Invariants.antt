@@ -1,0 +1,10 @@
+use Rattle.std.proofs.Common.{map, take}
+use Rattle.std.specs.List.{AllByRecursion}
+use Rattle.m_key.specs.Seen.{name_bytes}
+use Rattle.gds_cli.specs.LeafSeen.{valued}
+use Rattle.gds_cli.specs.Reading.{IsNodeOf}
+use Rattle.gds_cli.proofs.thin.directory.are_nodes_of.Given as goal
+
+-- those so far are of the global
+abbrev pub invariant-loop-node : goal.invariant-loop-node
+invariant-loop-node l = AllByRecursion (IsNodeOf l.header (name_bytes l.name)) (map valued (take l.node-index l.nodes))
