@@ -1,0 +1,5 @@
+use Rattle.gds_law.proofs.KeyLaws.{key_test}
+use Rattle.gds_law.proofs.laws.key_test.Goals as goal
+
+pub returns : goal.returns
+returns c = key_test

@@ -1,0 +1,5 @@
+use Rattle.gds_law.proofs.NumberLaws.{text_test}
+use Rattle.gds_law.proofs.laws.text_test.Goals as goal
+
+pub returns : goal.returns
+returns c = text_test

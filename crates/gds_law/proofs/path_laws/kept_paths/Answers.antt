@@ -1,0 +1,5 @@
+use Rattle.gds_law.proofs.PathLaws.{one_reading}
+use Rattle.gds_law.proofs.path_laws.kept_paths.Goals as goal
+
+pub returns : goal.returns
+returns c = one_reading

@@ -1,0 +1,17 @@
+pub mod Kinds
+pub mod Visit
+pub mod Seen
+pub mod Number
+pub mod Key
+pub mod Reading
+pub mod Record
+pub mod Block
+pub mod Path
+pub mod Tree
+pub mod Maps
+pub mod Faults
+pub mod Line
+pub mod Stands
+pub mod Sound
+pub mod Shape
+pub mod Move

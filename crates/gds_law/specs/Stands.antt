@@ -1,0 +1,99 @@
+-- What a file without faults stands for, and what is asked of it.
+use Rattle.std.specs.Prelude.{◌≡◌, ◌↔◌, ℕ, ◌+◌, ◌-◌, Bool, false, ◌&&◌, nat_lt, List, [], ◌∷◌, length, take, map, flat_map, Contains, Option, None, Some, find, option_map, option_and_then, slice_get, bytes_eq, if◌then◌else◌}
+use Rattle.std.specs.List.{list_any}
+use Rattle.std.specs.Option.{option_map_or}
+use Rattle.std.specs.Ordering.{nat_cmp, is_lt, is_eq}
+use Rattle.std.specs.Cmp.Lexicographic.{slice_cmp}
+use Rattle.std.specs.FinMap.{get, entries}
+use Rattle.m_key.specs.Node.{Node, NodeSubscript}
+use Rattle.m_key.specs.Key.{key_bytes}
+use Rattle.m_key.specs.Collation.{subscript_cmp, reference_cmp}
+use Rattle.m_key.specs.Globals.{Globals, Place, is_led}
+use Rattle.gds_block.specs.Record.{Record, records_of}
+use Rattle.gds_header.specs.Fields.{fields_of, block_of}
+use Rattle.gds_pack.specs.Item.{Item}
+use Rattle.gds_law.specs.Reading.{Reading, Seen, reading_of, key_of, rest_of, points}
+use Rattle.gds_law.specs.Record.{is_ended}
+use Rattle.gds_law.specs.Path.{Steps, visit_at, AreKept}
+use Rattle.gds_law.specs.Faults.{AreFaults}
+
+-- key and rest of each record, one after another behind a key, up to the first that ends the reading
+abbrev pub items_from : Reading → List ℕ → List Record → List Item
+items_from b previous [] = []
+items_from b previous (r ∷ rs) =
+    let s : Seen = record { previous = previous; record_ = r } in
+    if is_ended b s then [] else record { key = key_of b s; rest = rest_of b s } ∷ items_from b (key_of b s) rs
+
+abbrev pub items_of : Reading → List ℕ → List Item
+items_of b bytes = items_from b [] (records_of bytes)
+
+-- the keys and values in the block of a visit, if it is a level-0 block of a global
+abbrev pub values_of : Reading → List ℕ → List Item
+values_of b bytes = if points b then [] else items_of b bytes
+
+abbrev pub values_at : List ℕ → Steps → List Item
+values_at image path =
+    option_map_or (λ v. values_of (reading_of (fields_of image) v (block_of image v.block)) (block_of image v.block)) (visit_at image path) []
+
+-- The file has no fault, and the map's pairs are those of the level-0 blocks of globals in which kept paths end, however
+-- the blocks share them out.
+pub record StandsFor (image : List ℕ) (m : Globals) : Type 0 where
+  pub faultless : AreFaults image []
+  pub kept : List Steps
+  pub are_kept : AreKept image kept
+  pub pairs : (p : Place) (value : List ℕ) →
+      (get m p ≡ Some value) ↔ Contains (flat_map (values_at image) kept) (record { key = key_bytes p.node; rest = value })
+
+-- the nodes that have a value, in collation
+abbrev pub places_of : Globals → List Place
+places_of m = map (λ e. e.0) (entries m)
+
+-- a begins b, which is longer
+abbrev pub is_under : Node → Node → Bool
+is_under a b = is_led a b && nat_lt (length a.subscripts) (length b.subscripts)
+
+-- what comes next on a level: the name of a global, or a subscript
+pub data Next : Type 0 where
+  name : List ℕ → Next
+  subscript : NodeSubscript → Next
+
+-- the subscript of a node at a place
+abbrev pub subscript_of : ℕ → Place → Option Next
+subscript_of n p = option_map subscript (slice_get p.node.subscripts n)
+
+-- the least subscript of the nodes under one
+abbrev pub first_under : Globals → Node → Option Next
+first_under m a = option_and_then (subscript_of (length a.subscripts)) (find (λ p. is_under a p.node) (places_of m))
+
+-- the least subscript above s of the nodes under one
+abbrev pub is_behind : NodeSubscript → ℕ → Place → Bool
+is_behind s n p = option_map_or (λ t. is_lt (subscript_cmp s t)) (slice_get p.node.subscripts n) false
+
+abbrev pub next_under : Globals → Node → NodeSubscript → Option Next
+next_under m a s =
+    option_and_then (subscript_of (length a.subscripts))
+    (find (λ p. is_under a p.node && is_behind s (length a.subscripts) p) (places_of m))
+
+-- the least name above one
+abbrev pub next_name : Globals → List ℕ → Option Next
+next_name m own = option_map (λ p. name p.node.name) (find (λ p. is_lt (slice_cmp nat_cmp own p.node.name)) (places_of m))
+
+-- ORDER: the first subscript under a node, or what comes next on its level
+abbrev pub next_from : Globals → Node → Option NodeSubscript → Option Next
+next_from m r None = next_name m r.name
+next_from m r (Some last) =
+    next_under m (record { name = r.name; subscripts = take (length r.subscripts - 1) r.subscripts }) last
+
+abbrev pub order_of : Globals → Node → Bool → Option Next
+order_of m r first =
+    if first then first_under m r else next_from m r (slice_get r.subscripts (length r.subscripts - 1))
+
+-- DATA: 1 where the node has a value, and 10 more where one under it has
+abbrev pub data_of : Globals → Node → ℕ
+data_of m r =
+    (if list_any (λ p. is_eq (reference_cmp r p.node)) (places_of m) then 1 else 0)
+    + (if list_any (λ p. is_under r p.node) (places_of m) then 10 else 0)
+
+-- QUERY: the next node of the same global
+abbrev pub query_of : Globals → Node → Option Place
+query_of m r = find (λ p. bytes_eq p.node.name r.name && is_lt (reference_cmp r p.node)) (places_of m)

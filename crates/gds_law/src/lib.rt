@@ -1,0 +1,25 @@
+//! The law of faults: what can be wrong with a database file, which faults stand in it and in which order, and
+//! what a file without faults stands for. All of it is said over the file's bytes, apart from how a program
+//! would find it. Beside it stand the types in which faults are told.
+#![tactic(auto)]
+
+mod fault;
+mod kind;
+mod laws;
+mod path;
+mod path_laws;
+mod role;
+mod sink;
+mod sound_laws;
+
+pub use fault::Fault;
+pub use kind::FaultKind;
+pub use laws::{bytes_test, key_test, text_test};
+pub use path::Path;
+pub use path_laws::{fault_lists, kept_paths};
+pub use role::Role;
+pub use sink::{FaultSink, SinkTrouble};
+pub use sound_laws::{one_map, readings_agree};
+
+#[cfg(test)]
+mod tests;
