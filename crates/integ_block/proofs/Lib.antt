@@ -1,0 +1,9 @@
+pub mod Reached
+pub mod KindLaws
+pub mod EntryLaws
+pub mod KeyEnds
+pub mod TargetLaws
+pub mod ReadLaws
+pub mod BlockLaws
+pub mod HeadLaws
+pub mod KeyLemmas

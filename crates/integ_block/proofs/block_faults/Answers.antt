@@ -1,0 +1,193 @@
+use Rattle.std.proofs.Common.{ℕ, ◌≡◌, ◌≤◌, true, false, List, [], ◌++◌, length, Some, None, refl, sym, ◌∙◌, ap, subst, arith, append_assoc, length-append}
+use Rattle.std.specs.Prelude.{map, not, Bool, Option, SomeIff}
+use Rattle.std.specs.List.{list_any}
+use Rattle.std.proofs.lemmas.List.{append-nil, length-map}
+use Rattle.gds_block.specs.Block.{IsBlock}
+use Rattle.gds_block.specs.Record.{records_of}
+use Rattle.gds_law.specs.Block.{fault_at, faults_of_block, head_holds, kinds_from, children_from, children_of}
+use Rattle.gds_law.specs.Kinds.{ends, head_kinds}
+use Rattle.gds_law.specs.Reading as law
+use Rattle.gds_law.specs.Seen.{Told}
+use Rattle.gds_law.specs.Visit.{Visit, Child}
+use Rattle.gds_header.specs.declared.header.Header.{Header}
+use Rattle.integ_block.specs.Reading.{reading, faults_at}
+use Rattle.integ_block.specs.Seen.{visit_of, seen_child}
+use Rattle.integ_block.proofs.BlockLaws.{length-faults}
+use Rattle.integ_block.proofs.HeadLaws.{b, head, behind, same-head, same-behind, IsBlock-open, faults-head, children-head, faults-all, children-all, faults-begin}
+use Rattle.integ_block.proofs.KindLaws.{kept}
+use Rattle.integ_block.proofs.Reached.{IsCut, IsCut-behind, IsCut-front, IsCut-none, OnErr-any}
+use Rattle.integ_block.proofs.block_faults.Given.{Over}
+use Rattle.integ_block.proofs.block_faults.Goals as goal
+use Rattle.integ_block.proofs.block_faults.Goals.{In_ok-head}
+
+-- ---- after the head was told
+
+module _ (g : Over) (c : In_ok-head g) where
+  abbrev h : Header
+  h = c.args.header.now
+
+  abbrev v : Visit
+  v = visit_of c.args.at.now
+
+  abbrev path : List (ℕ × ℕ)
+  path = c.args.at.now.path
+
+  abbrev bytes : List ℕ
+  bytes = c.args.bytes.now
+
+  same-path : c.of-reading.result.at.now.path ≡ path
+  same-path = ap (λ a. a.path) c.of-reading.ensures.at
+
+  head-told : g.F.FaultSink.told c.tell_head.new.sink ≡ g.F.FaultSink.told c.args.sink.now ++ faults_at (b h path v bytes) path 0 (head h path v bytes)
+  head-told =
+      c.in_ok-head.ensures.ok
+      ∙ ap (λ xs. g.F.FaultSink.told c.args.sink.now ++ xs) (same-head (reading c.of-reading.result) (b h path v bytes) c.of-reading.result.at.now.path path bytes c.of-reading.ensures.reading same-path)
+
+  head-count : c.in_ok-head.head.count ≡ length (head h path v bytes)
+  head-count = c.in_ok-head.ensures.count ∙ ap (λ r. length (kept ends (head_holds r bytes) head_kinds)) c.of-reading.ensures.reading
+
+  head-end : c.in_ok-head.head.is_end ≡ list_any ends (head h path v bytes)
+  head-end = c.in_ok-head.ensures.is_end ∙ ap (λ r. list_any ends (kept ends (head_holds r bytes) head_kinds)) c.of-reading.ensures.reading
+
+  -- The reading ends with the head.
+  module _ (end : list_any ends (head h path v bytes) ≡ true) where
+    told-ended : g.F.FaultSink.told c.tell_head.new.sink ≡ g.F.FaultSink.told c.args.sink.now ++ faults_of_block h path v bytes
+    told-ended = head-told ∙ ap (λ xs. g.F.FaultSink.told c.args.sink.now ++ xs) (faults-head h path v bytes end)
+
+    count-ended : c.in_ok-head.head.count ≡ length (faults_of_block h path v bytes)
+    count-ended = head-count ∙ sym (length-faults (b h path v bytes) path 0 (head h path v bytes)) ∙ ap length (faults-head h path v bytes end)
+
+    children-ended : map seen_child c.args.children.now.items ≡ map seen_child c.args.children.now.items ++ children_of h v bytes
+    children-ended = sym (append-nil (map seen_child c.args.children.now.items)) ∙ ap (λ xs. map seen_child c.args.children.now.items ++ xs) (children-head h path v bytes end)
+
+-- ---- a block of which a kind of the head ends the reading
+
+not_false : (t : Bool) → not t ≡ false → t ≡ true
+not_false true h = refl
+not_false false h = absurd (cc)
+
+not_true : (t : Bool) → not t ≡ true → t ≡ false
+not_true true h = absurd (cc)
+not_true false h = refl
+
+ended : (g : Over) (c : In_ok-head g) → not c.in_ok-head.head.is_end ≡ false → list_any ends (head (h g c) (path g c) (v g c) (bytes g c)) ≡ true
+ended g c h = sym (head-end g c) ∙ not_false c.in_ok-head.head.is_end h
+
+pub returns-in_default-clause-told : goal.returns-in_default-clause-told
+returns-in_default-clause-told g c =
+    let d = (goal.at.returns-in_default-clause-told g c).In_ok-head in
+    told-ended g d (ended g d c.if-not-head.false)
+
+pub returns-in_default-clause-count : goal.returns-in_default-clause-count
+returns-in_default-clause-count g c =
+    let d = (goal.at.returns-in_default-clause-count g c).In_ok-head in
+    count-ended g d (ended g d c.if-not-head.false)
+
+pub returns-in_default-clause-children : goal.returns-in_default-clause-children
+returns-in_default-clause-children g c =
+    let d = (goal.at.returns-in_default-clause-children g c).In_ok-head in
+    children-ended g d (ended g d c.if-not-head.false)
+
+-- ---- what is no block, whose used count is told
+
+unless : (t : Bool) → (t ≡ false → ⊥) → t ≡ true
+unless true h = refl
+unless false h = absurd (h refl)
+
+unread : (g : Over) (c : In_ok-head g) → (IsBlock (bytes g c) → ⊥) → list_any ends (head (h g c) (path g c) (v g c) (bytes g c)) ≡ true
+unread g c none =
+    let long : 16 ≤ length (bytes g c) = omega (arith, c.requires.whole, c.requires.limits.block_from) in
+    unless _ (λ go. none (IsBlock-open (h g c) (v g c) (bytes g c) long c.requires.whole go))
+
+none_is : (P : Type 0) (o : Option (List ℕ)) (v : List ℕ) → SomeIff o P v → o ≡ None → P → ⊥
+none_is P None v iff e = iff
+none_is P (Some x) v iff e = absurd (cc)
+
+pub returns-in_default-2-clause-told : goal.returns-in_default-2-clause-told
+returns-in_default-2-clause-told g c =
+    let d = (goal.at.returns-in_default-2-clause-told g c).In_ok-head in
+    told-ended g d (unread g d (none_is _ c.new.result c.args.bytes.now c.new.ensures c.in_default.is))
+
+pub returns-in_default-2-clause-count : goal.returns-in_default-2-clause-count
+returns-in_default-2-clause-count g c =
+    let d = (goal.at.returns-in_default-2-clause-count g c).In_ok-head in
+    count-ended g d (unread g d (none_is _ c.new.result c.args.bytes.now c.new.ensures c.in_default.is))
+
+pub returns-in_default-2-clause-children : goal.returns-in_default-2-clause-children
+returns-in_default-2-clause-children g c =
+    let d = (goal.at.returns-in_default-2-clause-children g c).In_ok-head in
+    children-ended g d (unread g d (none_is _ c.new.result c.args.bytes.now c.new.ensures c.in_default.is))
+
+-- ---- a block whose records are read
+
+going : (g : Over) (c : In_ok-head g) → not c.in_ok-head.head.is_end ≡ true → list_any ends (head (h g c) (path g c) (v g c) (bytes g c)) ≡ false
+going g c h = sym (head-end g c) ∙ not_true c.in_ok-head.head.is_end h
+
+pub returns-in_ok-count-in-Some-clause-told : goal.returns-in_ok-count-in-Some-clause-told
+returns-in_ok-count-in-Some-clause-told g c =
+    let d = (goal.at.returns-in_ok-count-in-Some-clause-told g c).In_ok-head in
+    let old = g.F.FaultSink.told c.args.sink.now in
+    let top = faults_at (b (h g d) (path g d) (v g d) (bytes g d)) (path g d) 0 (head (h g d) (path g d) (v g d) (bytes g d)) in
+    let rest = map (fault_at (b (h g d) (path g d) (v g d) (bytes g d)) (path g d)) (behind (h g d) (path g d) (v g d) (bytes g d)) in
+    c.in_ok-count-in-Some.ensures.ok
+    ∙ ap (λ xs. g.F.FaultSink.told c.tell_head.new.sink ++ xs) (same-behind (reading c.of-reading.result) (b (h g d) (path g d) (v g d) (bytes g d)) c.of-reading.result.at.now.path (path g d) (bytes g d) c.of-reading.ensures.reading (same-path g d))
+    ∙ ap (λ xs. xs ++ rest) (head-told g d)
+    ∙ append_assoc old top rest
+    ∙ ap (λ xs. old ++ xs) (faults-all (h g d) (path g d) (v g d) (bytes g d) (going g d c.if-not-head.true))
+
+pub returns-in_ok-count-in-Some-clause-count : goal.returns-in_ok-count-in-Some-clause-count
+returns-in_ok-count-in-Some-clause-count g c =
+    let d = (goal.at.returns-in_ok-count-in-Some-clause-count g c).In_ok-head in
+    let r = b (h g d) (path g d) (v g d) (bytes g d) in
+    let kinds = head (h g d) (path g d) (v g d) (bytes g d) in
+    let more = behind (h g d) (path g d) (v g d) (bytes g d) in
+    let all : length (faults_at r (path g d) 0 kinds ++ map (fault_at r (path g d)) more) ≡ length (faults_of_block (h g d) (path g d) (v g d) (bytes g d)) =
+    ap length (faults-all (h g d) (path g d) (v g d) (bytes g d) (going g d c.if-not-head.true)) in
+    let records : c.in_ok-count-in-Some.count ≡ length more =
+    c.in_ok-count-in-Some.ensures.count ∙ ap (λ r. length (kinds_from r (bytes g d) 16 [] (records_of (bytes g d)))) c.of-reading.ensures.reading in
+    omega (arith, all, records, head-count g d, length-append (faults_at r (path g d) 0 kinds) (map (fault_at r (path g d)) more), length-faults r (path g d) 0 kinds, length-map more (fault_at r (path g d)))
+
+pub returns-in_ok-count-in-Some-clause-children : goal.returns-in_ok-count-in-Some-clause-children
+returns-in_ok-count-in-Some-clause-children g c =
+    let d = (goal.at.returns-in_ok-count-in-Some-clause-children g c).In_ok-head in
+    c.in_ok-count-in-Some.ensures.children
+    ∙ ap (λ r. map seen_child c.args.children.now.items ++ children_from r [] (records_of (bytes g d))) c.of-reading.ensures.reading
+    ∙ ap (λ xs. map seen_child c.args.children.now.items ++ xs) (children-all (h g d) (path g d) (v g d) (bytes g d) (going g d c.if-not-head.true))
+
+-- ---- a refusal among the records
+
+pub returns-in_err-count-in-Some-clause-err_told : goal.returns-in_err-count-in-Some-clause-err_told
+returns-in_err-count-in-Some-clause-err_told g c =
+    let d = (goal.at.returns-in_err-count-in-Some-clause-err_told g c).In_ok-head in
+    let now = g.F.FaultSink.told c.tell_head.new.sink in
+    let later = g.F.FaultSink.told c.tell_records.new.sink in
+    let cut = subst (λ (xs : List Told). IsCut now later xs) (same-behind (reading c.of-reading.result) (b (h g d) (path g d) (v g d) (bytes g d)) c.of-reading.result.at.now.path (path g d) (bytes g d) c.of-reading.ensures.reading (same-path g d)) c.in_err-count-in-Some.ensures.err in
+    OnErr-any c.from_residual-in_err-count-in-Some.result _
+    (IsCut-behind _ now later _ _ _ (head-told g d) (faults-all (h g d) (path g d) (v g d) (bytes g d) (going g d c.if-not-head.true)) cut)
+
+pub returns-in_err-count-in-Some-clause-err_children : goal.returns-in_err-count-in-Some-clause-err_children
+returns-in_err-count-in-Some-clause-err_children g c =
+    let d = (goal.at.returns-in_err-count-in-Some-clause-err_children g c).In_ok-head in
+    let now = map seen_child c.args.children.now.items in
+    let later = map seen_child c.tell_records.new.children.items in
+    OnErr-any c.from_residual-in_err-count-in-Some.result _
+    (subst (λ (xs : List Child). IsCut now later xs) (children-all (h g d) (path g d) (v g d) (bytes g d) (going g d c.if-not-head.true))
+    (subst (λ (r : law.Reading). IsCut now later (children_from r [] (records_of (bytes g d)))) c.of-reading.ensures.reading c.in_err-count-in-Some.ensures.err_children))
+
+-- ---- a refusal of the head's faults
+
+pub returns-in_err-head-clause-err_told : goal.returns-in_err-head-clause-err_told
+returns-in_err-head-clause-err_told g c =
+    let h = c.args.header.now in
+    let v = visit_of c.args.at.now in
+    let path = c.args.at.now.path in
+    let bytes = c.args.bytes.now in
+    let same-path = ap (λ a. a.path) c.of-reading.ensures.at in
+    let old = g.F.FaultSink.told c.args.sink.now in
+    let later = g.F.FaultSink.told c.tell_head.new.sink in
+    let cut = subst (λ (xs : List Told). IsCut old later xs) (same-head (reading c.of-reading.result) (b h path v bytes) c.of-reading.result.at.now.path path bytes c.of-reading.ensures.reading same-path) c.in_err-head.ensures.err in
+    let begin = faults-begin h path v bytes (list_any ends (head h path v bytes)) refl in
+    OnErr-any c.from_residual.result _ (IsCut-front old later _ begin.0 _ begin.1 cut)
+
+pub returns-in_err-head-clause-err_children : goal.returns-in_err-head-clause-err_children
+returns-in_err-head-clause-err_children g c = OnErr-any c.from_residual.result _ (IsCut-none _ _)

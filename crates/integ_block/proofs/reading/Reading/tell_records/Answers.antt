@@ -1,0 +1,165 @@
+use Rattle.std.proofs.Common.{ℕ, ◌≡◌, ◌+◌, ◌*◌, ◌≤◌, refl, List, [], ◌∷◌, ◌++◌, length, None, sym, ◌∙◌, subst, arith}
+use Rattle.std.specs.Prelude.{map, All}
+use Rattle.std.proofs.lemmas.List.{append-nil, length-map}
+use Rattle.std.proofs.lemmas.List.Elements.{All-rest, All-head}
+use Rattle.gds_block.specs.Record.{Record, AreRecords, StandsIn, bytes_left, records_of}
+use Rattle.gds_block.specs.View.{record_of}
+use Rattle.gds_law.specs.Block.{children_from, fault_at, kinds_from, size_kinds}
+use Rattle.gds_law.specs.Reading as law
+use Rattle.gds_law.specs.Record.{kinds_of}
+use Rattle.gds_law.specs.Seen.{Told}
+use Rattle.gds_law.specs.Visit.{Child}
+use Rattle.integ_block.specs.Entry.{children_at, IsNext, Leaves}
+use Rattle.integ_block.specs.Reading.{reading, faults_at}
+use Rattle.integ_block.specs.Seen.{seen_child}
+use Rattle.integ_block.proofs.Reached.{Reached, Reached-more, Reached-all, IsCut-more, IsCut-stop, OnErr-any}
+use Rattle.integ_block.proofs.BlockLaws.{behind, length-faults, told-behind, told-next, told-stop, children-next, children-stop, AreRecords-next}
+use Rattle.integ_block.proofs.reading.Reading.tell_records.Given.{Over}
+use Rattle.integ_block.proofs.reading.Reading.tell_records.Goals as goal
+use Rattle.integ_block.proofs.reading.Reading.tell_records.Goals.{After-tell_all}
+
+-- ---- before a record is taken
+
+module _ (g : Over) (c : After-tell_all g) where
+  abbrev b : law.Reading
+  b = reading c.args.self.now
+
+  abbrev bytes : List ℕ
+  bytes = c.args.bytes.now
+
+  abbrev path : List (ℕ × ℕ)
+  path = c.args.self.now.at.now.path
+
+  abbrev r : Record
+  r = record_of c.in-Some.view
+
+  abbrev rs : List Record
+  rs = c.next.new.self
+
+  abbrev previous : List ℕ
+  previous = c.as_slice.result.now
+
+  abbrev s : law.Seen
+  s = record { previous = previous; record_ = r }
+
+  told-here : Reached (g.F.FaultSink.told c.args.sink.now) (g.F.FaultSink.told c.loop-view.sink) (map (fault_at b path) (kinds_from b bytes c.loop-view.end previous (r ∷ rs))) (map (fault_at b path) (kinds_from b bytes 16 [] (records_of bytes))) c.loop-view.count
+  told-here =
+      subst (λ (p : List ℕ). Reached (g.F.FaultSink.told c.args.sink.now) (g.F.FaultSink.told c.loop-view.sink) (map (fault_at b path) (kinds_from b bytes c.loop-view.end p (r ∷ rs))) (map (fault_at b path) (kinds_from b bytes 16 [] (records_of bytes))) c.loop-view.count) (sym c.as_slice.ensures.value)
+      (subst (λ (xs : List Record). Reached (g.F.FaultSink.told c.args.sink.now) (g.F.FaultSink.told c.loop-view.sink) (map (fault_at b path) (kinds_from b bytes c.loop-view.end c.loop-view.previous.items xs)) (map (fault_at b path) (kinds_from b bytes 16 [] (records_of bytes))) c.loop-view.count) c.in-Some.ensures.steps
+      c.loop-view.invariant.told)
+
+  children-here : Reached (map seen_child c.args.children.now.items) (map seen_child c.loop-view.children.items) (children_from b previous (r ∷ rs)) (children_from b [] (records_of bytes)) c.loop-view.invariant.children.0
+  children-here =
+      subst (λ (p : List ℕ). Reached (map seen_child c.args.children.now.items) (map seen_child c.loop-view.children.items) (children_from b p (r ∷ rs)) (children_from b [] (records_of bytes)) c.loop-view.invariant.children.0) (sym c.as_slice.ensures.value)
+      (subst (λ (xs : List Record). Reached (map seen_child c.args.children.now.items) (map seen_child c.loop-view.children.items) (children_from b c.loop-view.previous.items xs) (children_from b [] (records_of bytes)) c.loop-view.invariant.children.0) c.in-Some.ensures.steps
+      c.loop-view.invariant.children.1)
+
+  are : AreRecords b.level c.loop-view.end (bytes_left bytes c.loop-view.end) (r ∷ rs)
+  are = subst (λ (xs : List Record). AreRecords b.level c.loop-view.end (bytes_left bytes c.loop-view.end) xs) c.in-Some.ensures.steps c.loop-view.invariant.records
+
+  few : c.loop-view.count + 17 * length (r ∷ rs) ≤ 17 * length (records_of bytes)
+  few = subst (λ (xs : List Record). c.loop-view.count + 17 * length xs ≤ 17 * length (records_of bytes)) c.in-Some.ensures.steps c.loop-view.invariant.few
+
+-- a record with which the reading ends, after all of its kinds were told
+module _ (g : Over) (c : After-tell_all g) where
+  told-all : (n : ℕ) → Leaves (b g c) (s g c) None → g.F.FaultSink.told c.tell_all.new.sink ≡ g.F.FaultSink.told c.loop-view.sink ++ faults_at (b g c) (path g c) (r g c).offset (kinds_of (b g c) (s g c)) → n ≡ length (kinds_of (b g c) (s g c))
+      → (g.F.FaultSink.told c.tell_all.new.sink ≡ g.F.FaultSink.told c.args.sink.now ++ map (fault_at (b g c) (path g c)) (kinds_from (b g c) (bytes g c) 16 [] (records_of (bytes g c))))
+      × (c.loop-view.count + n ≡ length (map (fault_at (b g c) (path g c)) (kinds_from (b g c) (bytes g c) 16 [] (records_of (bytes g c)))))
+  told-all n leaves ok count =
+      Reached-all _ _ _ _
+      (Reached-more _ (g.F.FaultSink.told c.loop-view.sink) _ (faults_at (b g c) (path g c) (r g c).offset (kinds_of (b g c) (s g c))) [] _ c.loop-view.count (c.loop-view.count + n)
+      (subst (λ (xs : List Told). Reached (g.F.FaultSink.told c.args.sink.now) (g.F.FaultSink.told c.loop-view.sink) xs (map (fault_at (b g c) (path g c)) (kinds_from (b g c) (bytes g c) 16 [] (records_of (bytes g c)))) c.loop-view.count)
+      (told-stop (b g c) (bytes g c) c.loop-view.end (previous g c) (r g c) (rs g c) c.requires.used (are g c) leaves (path g c)) (told-here g c))
+      ok (omega (arith, count, length-faults (b g c) (path g c) (r g c).offset (kinds_of (b g c) (s g c)))))
+
+-- ---- a record behind which the reading goes on
+
+pub loop-view-preserved : goal.loop-view-preserved
+loop-view-preserved g c =
+    let d = (goal.at.loop-view-preserved g c).After-tell_all in
+    let end = c.in-Some.view.offset + 4 + length c.in-Some.view.body.now in
+    let key = c.in-Some-key.key.items in
+    let next : IsNext (b g d) (s g d) key = rw c.in-Some-key.is at c.in_ok-told.ensures.leaves in
+    let same : end ≡ c.in-Some.view.offset + (4 + length c.in-Some.view.body.now) = omega arith in
+    let left = few g d in
+    let stands = All-head (StandsIn (bytes g d)) (r g d) (rs g d) (subst (λ (xs : List Record). All (StandsIn (bytes g d)) xs) c.in-Some.ensures.steps c.loop-view.invariant.stand) in
+    record {
+      can = tt;
+      finite = tt;
+      told = Reached-more _ (g.F.FaultSink.told c.loop-view.sink) _ (faults_at (b g d) (path g d) (r g d).offset (kinds_of (b g d) (s g d))) _ _ c.loop-view.count _
+          (subst (λ (xs : List Told). Reached (g.F.FaultSink.told c.args.sink.now) (g.F.FaultSink.told c.loop-view.sink) xs (map (fault_at (b g d) (path g d)) (kinds_from (b g d) (bytes g d) 16 [] (records_of (bytes g d)))) c.loop-view.count)
+          (told-next (b g d) (bytes g d) c.loop-view.end (previous g d) (r g d) (rs g d) (path g d) end key same next) (told-here g d))
+          c.in_ok-told.ensures.ok (omega (arith, c.in_ok-told.ensures.count, length-faults (b g d) (path g d) (r g d).offset (kinds_of (b g d) (s g d))));
+      children = (
+        c.loop-view.invariant.children.0 + length (children_at (b g d) (s g d)),
+        Reached-more _ (map seen_child c.loop-view.children.items) _ (children_at (b g d) (s g d)) _ _ c.loop-view.invariant.children.0 _
+            (subst (λ (xs : List Child). Reached (map seen_child c.args.children.now.items) (map seen_child c.loop-view.children.items) xs (children_from (b g d) [] (records_of (bytes g d))) c.loop-view.invariant.children.0)
+            (children-next (b g d) (bytes g d) c.loop-view.end (previous g d) (r g d) (rs g d) key next) (children-here g d))
+            c.in_ok-told.ensures.children refl,
+      );
+      fronts = next.fronts;
+      records = AreRecords-next c.args.self.now.level (bytes g d) c.loop-view.end (r g d) (rs g d) (are g d) end same;
+      stand = All-rest (StandsIn (bytes g d)) (r g d) (rs g d) c.loop-view.view-iterator c.in-Some.ensures.steps c.loop-view.invariant.stand;
+      end = omega (arith, stands.within, c.requires.used);
+      few = omega (arith, c.in_ok-told.ensures.few, left);
+      failures = omega (arith, c.in_ok-told.ensures.failures);
+    }
+
+-- ---- a record with which it ends
+
+pub returns-in_default-clause-ok : goal.returns-in_default-clause-ok
+returns-in_default-clause-ok g c =
+    let d = (goal.at.returns-in_default-clause-ok g c).After-tell_all in
+    (told-all g d c.in_ok-told.told (rw c.in_default.is at c.in_ok-told.ensures.leaves) c.in_ok-told.ensures.ok (omega (arith, c.in_ok-told.ensures.count))).0
+
+pub returns-in_default-clause-count : goal.returns-in_default-clause-count
+returns-in_default-clause-count g c =
+    let d = (goal.at.returns-in_default-clause-count g c).After-tell_all in
+    let all = told-all g d c.in_ok-told.told (rw c.in_default.is at c.in_ok-told.ensures.leaves) c.in_ok-told.ensures.ok (omega (arith, c.in_ok-told.ensures.count)) in
+    omega (arith, all.1, length-map (kinds_from (b g d) (bytes g d) 16 [] (records_of (bytes g d))) (fault_at (b g d) (path g d)))
+
+pub returns-in_default-clause-children : goal.returns-in_default-clause-children
+returns-in_default-clause-children g c =
+    let d = (goal.at.returns-in_default-clause-children g c).After-tell_all in
+    let leaves : Leaves (b g d) (s g d) None = rw c.in_default.is at c.in_ok-told.ensures.leaves in
+    (Reached-all _ _ _ _
+    (Reached-more _ (map seen_child c.loop-view.children.items) _ (children_at (b g d) (s g d)) [] _ c.loop-view.invariant.children.0 (c.loop-view.invariant.children.0 + length (children_at (b g d) (s g d)))
+    (subst (λ (xs : List Child). Reached (map seen_child c.args.children.now.items) (map seen_child c.loop-view.children.items) xs (children_from (b g d) [] (records_of (bytes g d))) c.loop-view.invariant.children.0)
+    (children-stop (b g d) (bytes g d) c.loop-view.end (previous g d) (r g d) (rs g d) c.requires.used (are g d) leaves) (children-here g d))
+    c.in_ok-told.ensures.children refl)).0
+
+-- ---- a refusal
+
+pub returns-in_err-told-clause-err : goal.returns-in_err-told-clause-err
+returns-in_err-told-clause-err g c =
+    let d = (goal.at.returns-in_err-told-clause-err g c).After-tell_all in
+    OnErr-any c.from_residual.result _
+    (IsCut-more _ (g.F.FaultSink.told c.loop-view.sink) _ (faults_at (b g d) (path g d) (r g d).offset (kinds_of (b g d) (s g d))) (behind (b g d) (bytes g d) c.loop-view.end (previous g d) (r g d) (rs g d) (path g d)) _ c.loop-view.count
+    (subst (λ (xs : List Told). Reached (g.F.FaultSink.told c.args.sink.now) (g.F.FaultSink.told c.loop-view.sink) xs (map (fault_at (b g d) (path g d)) (kinds_from (b g d) (bytes g d) 16 [] (records_of (bytes g d)))) c.loop-view.count)
+    (told-behind (b g d) (bytes g d) c.loop-view.end (previous g d) (r g d) (rs g d) (path g d)) (told-here g d))
+    c.in_err-told.ensures.err)
+
+pub returns-in_err-told-clause-err_children : goal.returns-in_err-told-clause-err_children
+returns-in_err-told-clause-err_children g c =
+    let d = (goal.at.returns-in_err-told-clause-err_children g c).After-tell_all in
+    OnErr-any c.from_residual.result _ (IsCut-stop _ (map seen_child c.loop-view.children.items) _ _ _ c.loop-view.invariant.children.0 (children-here g d) c.in_err-told.ensures.err_children)
+
+pub returns-in_err-last-clause-err : goal.returns-in_err-last-clause-err
+returns-in_err-last-clause-err g c = OnErr-any c.from_residual-in_err-last.result _ (IsCut-stop _ _ _ _ _ c.loop-view.count c.loop-view.invariant.told c.in_err-last.ensures.err)
+
+pub returns-in_err-last-clause-err_children : goal.returns-in_err-last-clause-err_children
+returns-in_err-last-clause-err_children g c = OnErr-any c.from_residual-in_err-last.result _ (IsCut-stop _ _ _ _ _ c.loop-view.invariant.children.0 c.loop-view.invariant.children.1 refl)
+
+-- ---- behind the last record
+
+pub returns-clause-count : goal.returns-clause-count
+returns-clause-count g c =
+    let b = reading c.args.self.now in
+    let bytes = c.args.bytes.now in
+    let path = c.args.self.now.at.now.path in
+    let kinds = size_kinds b.level (bytes_left bytes c.loop-view.end) in
+    let at_end = subst (λ (xs : List Record). Reached (g.F.FaultSink.told c.args.sink.now) (g.F.FaultSink.told c.loop-view.sink) (map (fault_at b path) (kinds_from b bytes c.loop-view.end c.loop-view.previous.items xs)) (map (fault_at b path) (kinds_from b bytes 16 [] (records_of bytes))) c.loop-view.count) c.in-None.ensures.steps.0 c.loop-view.invariant.told in
+    (Reached-all _ _ _ _ (Reached-more _ (g.F.FaultSink.told c.loop-view.sink) _ (faults_at b path c.loop-view.end kinds) [] _ c.loop-view.count _
+    (subst (λ (xs : List Told). Reached (g.F.FaultSink.told c.args.sink.now) (g.F.FaultSink.told c.loop-view.sink) xs (map (fault_at b path) (kinds_from b bytes 16 [] (records_of bytes))) c.loop-view.count) (sym (append-nil (faults_at b path c.loop-view.end kinds))) at_end)
+    c.in_ok-last.ensures.ok (omega (arith, c.in_ok-last.ensures.count, length-faults b path c.loop-view.end kinds)))).1
+    ∙ length-map (kinds_from b bytes 16 [] (records_of bytes)) (fault_at b path)

@@ -1,0 +1,10 @@
+use Rattle.std.proofs.Common.{length, ap, arith, length-take}
+use Rattle.std.specs.Prelude.{◌==◌, not}
+use Rattle.std.specs.List.{prefix_len}
+use Rattle.integ_block.proofs.record.Record.root.Goals as goal
+
+-- A key's name is no longer than the key.
+pub key_of-requires : goal.key_of-requires
+key_of-requires c =
+    let key = c.args.key.now in
+    omega (arith, ap length c.name_part.ensures, length-take (prefix_len (λ b. not (b == 0)) key) key)

@@ -1,0 +1,17 @@
+use Rattle.std.proofs.Common.{◌++◌, sym, ◌∙◌, ap}
+use Rattle.std.specs.Prelude.{map}
+use Rattle.std.proofs.lemmas.List.{append-nil}
+use Rattle.integ_block.specs.Entry.{seen}
+use Rattle.integ_block.specs.Reading.{reading}
+use Rattle.integ_block.specs.Seen.{seen_child}
+use Rattle.integ_block.proofs.ReadLaws.{Leaves-ended, children-ended}
+use Rattle.integ_block.proofs.record.Record.tell_all.Goals as goal
+
+pub returns-in_ok-tell-in-Err-clause-children : goal.returns-in_ok-tell-in-Err-clause-children
+returns-in_ok-tell-in-Err-clause-children g c =
+    let before = map seen_child c.args.children.now.items in
+    let none = children-ended (reading c.args.self.reading) (seen c.args.self) c.in-Err.kind c.in-Err.ensures.err c.in-Err.ensures.ends in
+    sym (ap (λ xs. before ++ xs) none ∙ append-nil before)
+
+pub returns-in_ok-tell-in-Err-clause-leaves : goal.returns-in_ok-tell-in-Err-clause-leaves
+returns-in_ok-tell-in-Err-clause-leaves g c = Leaves-ended (reading c.args.self.reading) (seen c.args.self) c.in-Err.kind c.in-Err.ensures.err c.in-Err.ensures.ends

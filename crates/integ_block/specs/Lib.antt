@@ -1,0 +1,4 @@
+pub mod Error
+pub mod Seen
+pub mod Reading
+pub mod Entry

@@ -1,0 +1,115 @@
+ghost use Rattle.std.specs.Prelude.{◌≡◌, ◌≤◌, ◌∷◌, [], ◌++◌, OnOk, OnErr, IsErrOf, length};
+ghost use Rattle.host_model.specs.Faults.{Rose};
+ghost use Rattle.gds_law.specs.Block.{fault_at};
+ghost use Rattle.gds_law.specs.Reading.{points, reading_of};
+ghost use Rattle.gds_law.specs.Record.{is_above_bound, is_below_bound, is_directory, is_other_global, is_sound};
+ghost use Rattle.integ_block.specs.Seen.{visit_of};
+ghost use Rattle.integ_block.specs.Reading.{reading};
+
+use crate::compare::is_below;
+use crate::fields::u32_at;
+use crate::{At, IntegError};
+use gds_header::Header;
+use gds_law::{Fault, FaultKind, FaultSink, Role};
+
+/// A block as it is read: the file's header, where the block stands, its level byte and its used count.
+#[derive(Clone, Copy)]
+pub(crate) struct Reading<'a> {
+    pub(crate) header: &'a Header,
+    pub(crate) at: &'a At,
+    pub(crate) level: u8,
+    pub(crate) used: u32,
+}
+
+impl<'a> Reading<'a> {
+    /// The reading of a block with these bytes.
+    pub(crate) fn of(bytes: &[u8], at: &'a At, header: &'a Header) -> Reading<'a>
+        requires { 16 ≤ length bytes.now }
+        ensures reading { reading result ≡ reading_of header.now (visit_of at.now) bytes.now }
+        ensures at { result.at.now ≡ at.now }
+    {
+        Reading {
+            header,
+            at,
+            level: bytes[3],
+            used: u32_at(bytes, 4),
+        }
+    }
+
+    /// Tells that a kind stands at an offset.
+    pub(crate) fn tell<F: FaultSink>(
+        &self,
+        offset: u32,
+        kind: FaultKind,
+        sink: &mut F,
+    ) -> Result<(), IntegError>
+        ensures ok { OnOk result
+            (F.told sink.new ≡ F.told sink.old ++ fault_at (reading self.now) self.now.at.now.path (offset, kind) ∷ []) }
+        ensures err { OnErr result (F.told sink.new ≡ F.told sink.old) }
+        ensures failures { F.failures sink.old ≤ F.failures sink.new }
+        ensures say_fault { IsErrOf result IntegError.SayFault → Rose (F.failures sink.old) (F.failures sink.new) }
+    {
+        let fault = Fault {
+            kind,
+            block: self.at.block,
+            offset,
+            level: self.level,
+            path: self.at.path.copied(),
+        };
+        sink.fault(&fault)?;
+        Ok(())
+    }
+
+    /// Whether the block is one of the directory's.
+    pub(crate) fn is_directory(&self) -> bool
+        ensures { result ≡ is_directory (reading self.now).visit.role }
+    {
+        matches!(self.at.role, Role::Directory)
+    }
+
+    /// Whether the block belongs to a global of another name.
+    pub(crate) fn is_other_global(&self, name: &[u8]) -> bool
+        ensures { result ≡ is_other_global (reading self.now).visit.role name.now }
+    {
+        match &self.at.role {
+            Role::Directory => false,
+            Role::Global(own) => own.as_slice() != name,
+        }
+    }
+
+    /// Whether a key isn't below the upper bound of the block.
+    pub(crate) fn is_above_bound(&self, key: &[u8]) -> bool
+        ensures { result ≡ is_above_bound (reading self.now).visit.high key.now }
+    {
+        match &self.at.high {
+            Some(bound) => !is_below(key, bound.as_slice()),
+            None => false,
+        }
+    }
+
+    /// Whether a key is below the lower bound of the block or, in an index block, equal to it.
+    pub(crate) fn is_below_bound(&self, key: &[u8]) -> bool
+        ensures { result ≡ is_below_bound self.now.level (reading self.now).visit.low key.now }
+    {
+        match &self.at.low {
+            Some(bound) => {
+                is_below(key, bound.as_slice()) || self.level > 0 && key == bound.as_slice()
+            }
+            None => false,
+        }
+    }
+
+    /// Whether what follows the keys of the block is a pointer. In the level-0 blocks of globals it is a value.
+    pub(crate) fn points(&self) -> bool
+        ensures { result ≡ points (reading self.now) }
+    {
+        self.level > 0 || self.is_directory()
+    }
+
+    /// Whether a pointer names a block that is no map.
+    pub(crate) fn is_sound(&self, pointer: u32) -> bool
+        ensures { result ≡ is_sound (reading self.now) pointer }
+    {
+        pointer > 0 && pointer < self.header.total && pointer % 512 != 0
+    }
+}

@@ -1,0 +1,230 @@
+ghost use Rattle.std.specs.Prelude.{◌≡◌, ◌+◌, ◌-◌, ◌<◌, ◌≤◌, ◌^◌, true, false, ℕ, [], ◌∷◌, ◌++◌, length, map, take, option_map, IfOk, IfErr, OnOk, OnErr, IsErrOf};
+ghost use Rattle.host_model.specs.Faults.{Rose};
+ghost use Rattle.gds_law.specs.Key.{name_part};
+ghost use Rattle.gds_law.specs.Kinds.{ends};
+ghost use Rattle.gds_law.specs.Reading.{is_last, is_first};
+ghost use Rattle.gds_law.specs.Record.{low_of};
+ghost use Rattle.gds_law.specs.Visit.{global_root};
+ghost use Rattle.gds_pack.specs.Key.{HasOpenFronts};
+ghost use Rattle.integ_block.specs.Reading.{reading};
+ghost use Rattle.integ_block.specs.Entry.{children_here, faults_here, kinds_here, seen, IsEntry, IsCount, IsKeyPart, LeavesHere};
+ghost use Rattle.integ_block.specs.Seen.{seen_child};
+
+use crate::compare::{end_in, ends_in_zero};
+use crate::copies::{bound_of, joined, key_of, role_of};
+use crate::entry::{Entry, Step};
+use crate::key::{key_fault, name_part};
+use crate::reading::Reading;
+use crate::{Child, IntegError};
+use gds_block::RecordView;
+use gds_law::{FaultKind, FaultSink, Role};
+use m_key::Key;
+
+/// Where the first record of a block stands.
+pub(crate) const FIRST: u32 = 16;
+
+/// A record, and the key before it, which is empty where there is none.
+#[derive(Clone, Copy)]
+pub(crate) struct Record<'a> {
+    pub(crate) reading: Reading<'a>,
+    pub(crate) previous: &'a [u8],
+    pub(crate) view: RecordView<'a>,
+}
+
+impl<'a> Record<'a> {
+    /// Tells the kinds that stand of the record, and appends its child.
+    pub(crate) fn tell_all<F: FaultSink>(
+        self,
+        sink: &mut F,
+        children: &mut Vec<Child>,
+    ) -> Result<Step, IntegError>
+        requires small { self.view.offset + 4 + length self.view.body.now < 2 ^ 32 }
+        requires key_max { self.reading.header.now.key_max ≤ 255 }
+        requires fronts { HasOpenFronts self.previous.now }
+        requires short { length self.previous.now ≤ 255 }
+        ensures ok { OnOk result (F.told sink.new ≡ F.told sink.old ++ faults_here self.entry) }
+        ensures count { IfOk result (λ step. step.count ≡ length (kinds_here self.entry)) }
+        ensures few { IfOk result (λ step. step.count ≤ 17) }
+        ensures children { OnOk result
+            (map seen_child children.new.items ≡ map seen_child children.old.items ++ children_here self.entry) }
+        ensures leaves { IfOk result (λ step. LeavesHere self.entry step.key) }
+        ensures err { OnErr result ((n : ℕ) × (F.told sink.new ≡ F.told sink.old ++ take n (faults_here self.entry))) }
+        ensures err_children { OnErr result (map seen_child children.new.items ≡ map seen_child children.old.items) }
+        ensures failures { F.failures sink.old ≤ F.failures sink.new }
+        ensures say_fault { IsErrOf result IntegError.SayFault → Rose (F.failures sink.old) (F.failures sink.new) }
+    {
+        match self.read() {
+            Ok(entry) => entry.tell_all(sink, children),
+            Err(kind) => {
+                self.reading.tell(self.view.offset, kind, sink)?;
+                Ok(Step {
+                    count: 1,
+                    key: None,
+                })
+            }
+        }
+    }
+
+    /// Reads the record, or answers the kind that ends the reading of its block, which then is its only one.
+    fn read(self) -> Result<Entry<'a>, FaultKind>
+        requires small { self.view.offset + 4 + length self.view.body.now < 2 ^ 32 }
+        requires short { self.reading.header.now.key_max ≤ 255 }
+        requires fronts { HasOpenFronts self.previous.now }
+        ensures ok { IfOk result IsEntry }
+        ensures same { IfOk result (λ entry. entry.record ≡ self.entry) }
+        ensures err { IfErr result (λ kind. kinds_here self.entry ≡ kind ∷ []) }
+        ensures ends { IfErr result (λ kind. ends kind ≡ true) }
+    {
+        if self.is_last() {
+            self.read_star()
+        } else {
+            self.read_keyed()
+        }
+    }
+
+    /// Whether this is a record of an index block that ends at the used count.
+    fn is_last(&self) -> bool
+        requires { self.now.view.offset + 4 + length self.now.view.body.now < 2 ^ 32 }
+        ensures { result ≡ is_last (reading self.now.reading) (seen self.now) }
+    {
+        let end = self.view.offset + 4 + self.view.body.len() as u32;
+        self.reading.level > 0 && end == self.reading.used
+    }
+
+    fn read_star(self) -> Result<Entry<'a>, FaultKind>
+        requires { is_last (reading self.reading) (seen self) ≡ true }
+        ensures ok { IfOk result IsEntry }
+        ensures same { IfOk result (λ entry. entry.record ≡ self.entry) }
+        ensures err { IfErr result (λ kind. kinds_here self.entry ≡ kind ∷ []) }
+        ensures ends { IfErr result (λ kind. ends kind ≡ true) }
+    {
+        if self.view.body.len() != 4 {
+            return Err(FaultKind::StarSize);
+        }
+        Ok(Entry {
+            record: self,
+            key: None,
+            rest: self.view.body,
+            fault: None,
+        })
+    }
+
+    fn read_keyed(self) -> Result<Entry<'a>, FaultKind>
+        requires not_last { is_last (reading self.reading) (seen self) ≡ false }
+        requires short { self.reading.header.now.key_max ≤ 255 }
+        requires fronts { HasOpenFronts self.previous.now }
+        ensures ok { IfOk result IsEntry }
+        ensures same { IfOk result (λ entry. entry.record ≡ self.entry) }
+        ensures err { IfErr result (λ kind. kinds_here self.entry ≡ kind ∷ []) }
+        ensures ends { IfErr result (λ kind. ends kind ≡ true) }
+    {
+        self.check_count()?;
+        let len = self.key_part()?;
+        let (end, rest) = self.view.body.split_at(len);
+        let key = joined(&self.previous[..self.view.count as usize], end);
+        let fault = key_fault(key.as_slice());
+        Ok(Entry {
+            record: self,
+            key: Some(key),
+            rest,
+            fault,
+        })
+    }
+
+    /// The count is 0 in the first record, and in any other below the length of the key before it.
+    fn check_count(&self) -> Result<(), FaultKind>
+        requires { is_last (reading self.now.reading) (seen self.now) ≡ false }
+        ensures ok { IfOk result (λ _. IsCount (reading self.now.reading) (seen self.now)) }
+        ensures err { IfErr result (λ kind. kinds_here self.now ≡ kind ∷ []) }
+        ensures ends { IfErr result (λ kind. ends kind ≡ true) }
+    {
+        if self.is_first() {
+            if self.view.count > 0 {
+                return Err(FaultKind::FirstCount);
+            }
+        } else if self.view.count as usize >= self.previous.len() {
+            return Err(FaultKind::CountTooLarge);
+        }
+        Ok(())
+    }
+
+    /// How many bytes of the body belong to the key.
+    fn key_part(&self) -> Result<usize, FaultKind>
+        requires not_last { is_last (reading self.now.reading) (seen self.now) ≡ false }
+        requires count { IsCount (reading self.now.reading) (seen self.now) }
+        requires fronts { HasOpenFronts self.now.previous.now }
+        ensures ok { IfOk result (IsKeyPart (reading self.now.reading) (seen self.now)) }
+        ensures err { IfErr result (λ kind. kinds_here self.now ≡ kind ∷ []) }
+        ensures ends { IfErr result (λ kind. ends kind ≡ true) }
+    {
+        let count = self.view.count as usize;
+        let greatest = self.reading.header.key_max as usize;
+        match end_in(ends_in_zero(&self.previous[..count]), self.view.body) {
+            Some(len) if count + len <= greatest => Ok(len),
+            _ if count + self.view.body.len() > greatest => Err(FaultKind::KeyTooLong),
+            _ => Err(FaultKind::KeyWithoutEnd),
+        }
+    }
+
+    /// Whether this is the first record of its block.
+    pub(crate) fn is_first(&self) -> bool
+        ensures { result ≡ is_first (seen self.now) }
+    {
+        self.view.offset == FIRST
+    }
+
+    /// A child that is the root of the global with this key's name.
+    pub(crate) fn root(&self, block: u32, key: &[u8]) -> Child
+        requires { length key.now ≤ 255 }
+        ensures { seen_child result ≡ record {
+          offset = self.now.view.offset;
+          visit = global_root block (name_part key.now);
+        } }
+    {
+        Child {
+            offset: self.view.offset,
+            block,
+            role: Role::Global(key_of(name_part(key))),
+            level: None,
+            low: None,
+            high: None,
+        }
+    }
+
+    /// A child in the same tree, with this upper bound.
+    pub(crate) fn below(&self, block: u32, high: Option<Key>) -> Child
+        requires level { 0 < self.now.reading.level }
+        requires short { length self.now.previous.now ≤ 255 }
+        ensures { seen_child result ≡ record {
+          offset = self.now.view.offset;
+          visit = record {
+            block = block;
+            role = (reading self.now.reading).visit.role;
+            level = Some (self.now.reading.level - 1);
+            low = low_of (reading self.now.reading) (seen self.now);
+            high = option_map (λ key. key.items) high;
+          };
+        } }
+    {
+        Child {
+            offset: self.view.offset,
+            block,
+            role: role_of(&self.reading.at.role),
+            level: Some(self.reading.level - 1),
+            low: self.low(),
+            high,
+        }
+    }
+
+    /// The lower bound below the record: the key before it or, in the first record, the block's own.
+    fn low(&self) -> Option<Key>
+        requires { length self.now.previous.now ≤ 255 }
+        ensures { option_map (λ key. key.items) result ≡ low_of (reading self.now.reading) (seen self.now) }
+    {
+        if self.is_first() {
+            bound_of(&self.reading.at.low)
+        } else {
+            Some(key_of(self.previous))
+        }
+    }
+}
