@@ -1,21 +1,24 @@
 ghost use Rattle.std.specs.Prelude.{◌≡◌, ◌+◌, ◌≤◌, length, SomeIff};
 ghost use Rattle.gds_block.specs.Fields.{u16_at, u32_at, u64_at};
 
-pub(crate) fn u16_at(bytes: &[u8], at: usize) -> u16
+/// The number in the two bytes from a place on, the lowest byte first.
+pub fn u16_at(bytes: &[u8], at: usize) -> u16
     requires { at + 2 ≤ length bytes.now }
     ensures { result ≡ u16_at bytes.now at }
 {
     u16::from_le_bytes([bytes[at], bytes[at + 1]])
 }
 
-pub(crate) fn u32_at(bytes: &[u8], at: usize) -> u32
+/// The number in the four bytes from a place on, the lowest byte first.
+pub fn u32_at(bytes: &[u8], at: usize) -> u32
     requires { at + 4 ≤ length bytes.now }
     ensures { result ≡ u32_at bytes.now at }
 {
     u32::from_le_bytes([bytes[at], bytes[at + 1], bytes[at + 2], bytes[at + 3]])
 }
 
-pub(crate) fn u64_at(bytes: &[u8], at: usize) -> u64
+/// The number in the eight bytes from a place on, the lowest byte first.
+pub fn u64_at(bytes: &[u8], at: usize) -> u64
     requires { at + 8 ≤ length bytes.now }
     ensures { result ≡ u64_at bytes.now at }
 {

@@ -10,7 +10,7 @@ mod head;
 mod records;
 mod view;
 
-pub use fields::pointer_of;
+pub use fields::{pointer_of, u16_at, u32_at, u64_at};
 pub use head::write_head;
 pub use records::{RecordView, Records};
 pub use view::BlockView;

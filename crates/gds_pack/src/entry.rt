@@ -25,8 +25,8 @@ impl Entry {
     }
 }
 
-// How many leading bytes two keys share.
-pub(crate) fn shared_len(a: &[u8], b: &[u8]) -> usize
+/// How many leading bytes two keys share.
+pub fn shared_len(a: &[u8], b: &[u8]) -> usize
     ensures value { result ≡ shared a.now b.now }
     ensures within_first { result ≤ length a.now }
     ensures within_second { result ≤ length b.now }

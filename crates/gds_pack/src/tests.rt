@@ -3,7 +3,6 @@ ghost use Rattle.gds_pack.specs.Item.{Item};
 ghost use Rattle.gds_pack.specs.Seen.{item, items};
 
 use super::*;
-use crate::unpacking::joined;
 use gds_block::BlockView;
 use std::alloc::{AllocError, Global};
 use std::test::Fail;
@@ -27,7 +26,7 @@ fn entry(alloc: Global, key: &[u8], rest: &[u8]) -> Result<Entry, AllocError>
     ensures { IfOk result (λ e. item e ≡ record { key = key.now; rest = rest.now }) }
 {
     Ok(Entry {
-        key: joined(&[], key),
+        key: join_key(&[], key),
         rest: Vec::from_slice(alloc, rest)?,
     })
 }

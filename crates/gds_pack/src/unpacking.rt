@@ -87,7 +87,7 @@ fn read_keyed(
     let (end, rest) = view.body.split_at(len);
     let rest = Vec::from_slice(alloc, rest)?;
     Ok(Some(Entry {
-        key: joined(&previous[..view.count as usize], end),
+        key: join_key(&previous[..view.count as usize], end),
         rest,
     }))
 }
@@ -115,7 +115,8 @@ fn is_count(previous: &[u8], count: usize) -> bool
     count < previous.len() || count == 0
 }
 
-fn ends_in_zero(bytes: &[u8]) -> bool
+/// Whether there is a last byte and it is 0.
+pub fn ends_in_zero(bytes: &[u8]) -> bool
     ensures { result ≡ zero_after false bytes.now }
 {
     match bytes.last() {
@@ -124,8 +125,8 @@ fn ends_in_zero(bytes: &[u8]) -> bool
     }
 }
 
-// The key that has these bytes.
-pub(crate) fn joined(front: &[u8], end: &[u8]) -> Key
+/// The key whose bytes are those of a front and then those of an end, 255 together at most.
+pub fn join_key(front: &[u8], end: &[u8]) -> Key
     requires { length front.now + length end.now ≤ 255 }
     ensures { result.items ≡ front.now ++ end.now }
 {
@@ -144,9 +145,10 @@ fn append(key: &mut Key, bytes: &[u8])
     }
 }
 
-// How many bytes there are up to the second of the first two neighbouring zero bytes, where the byte before
-// these counts as one of the two if it is zero.
-fn end_in(after_zero: bool, body: &[u8]) -> Option<usize>
+/// How many bytes there are up to the end of a key: the second of the first two neighbouring zero bytes. The
+/// byte before these counts as one of the two where it is zero, which `after_zero` says. `None` where no key
+/// ends in them.
+pub fn end_in(after_zero: bool, body: &[u8]) -> Option<usize>
     ensures value { result ≡ end_in after_zero body.now }
     ensures within { IfSome result (λ n. n ≤ length body.now) }
 {

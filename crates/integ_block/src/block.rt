@@ -8,11 +8,10 @@ ghost use Rattle.integ_block.specs.Reading.{reading, faults_at};
 ghost use Rattle.integ_block.specs.Seen.{seen_child};
 
 use crate::entry::Step;
-use crate::fields::u16_at;
 use crate::reading::Reading;
 use crate::record::{FIRST, Record};
 use crate::{Child, IntegError};
-use gds_block::BlockView;
+use gds_block::{BlockView, u16_at};
 use gds_law::{FaultKind, FaultSink};
 use m_key::Key;
 

@@ -1,8 +1,8 @@
-ghost use Rattle.std.specs.Prelude.{◌≡◌, ◌+◌, ◌≤◌, ◌++◌, length, option_map};
-ghost use Rattle.arrayvec.specs.ArrayVec.{array_vec_len};
+ghost use Rattle.std.specs.Prelude.{◌≡◌, ◌≤◌, length, option_map};
 ghost use Rattle.gds_law.specs.Seen.{role_of};
 
 use gds_law::Role;
+use gds_pack::join_key;
 use m_key::Key;
 
 /// The key with these bytes.
@@ -10,27 +10,7 @@ pub(crate) fn key_of(bytes: &[u8]) -> Key
     requires { length bytes.now ≤ 255 }
     ensures { result.items ≡ bytes.now }
 {
-    joined(bytes, &[])
-}
-
-/// The key with the bytes of a front and of an end.
-pub(crate) fn joined(front: &[u8], end: &[u8]) -> Key
-    requires { length front.now + length end.now ≤ 255 }
-    ensures { result.items ≡ front.now ++ end.now }
-{
-    let mut key = Key::new();
-    append(&mut key, front);
-    append(&mut key, end);
-    key
-}
-
-fn append(key: &mut Key, bytes: &[u8])
-    requires { array_vec_len key.old + length bytes.now ≤ 255 }
-    ensures { key.new.items ≡ key.old.items ++ bytes.now }
-{
-    for byte in bytes {
-        key.push(*byte);
-    }
+    join_key(bytes, &[])
 }
 
 /// The same bound.

@@ -7,13 +7,14 @@ ghost use Rattle.integ_block.specs.Reading.{reading, faults_at};
 ghost use Rattle.integ_block.specs.Entry.{children_here, faults_here, kinds_here, seen, IsEntry, IsKeyed, LeavesHere};
 ghost use Rattle.integ_block.specs.Seen.{seen_child};
 
-use crate::compare::{is_below, shared_len};
+use crate::compare::is_below;
 use crate::copies::{bound_of, key_of};
 use crate::key::{has_subscripts, name_part};
 use crate::record::Record;
 use crate::{Child, IntegError};
 use gds_block::pointer_of;
 use gds_law::{FaultKind, FaultSink};
+use gds_pack::shared_len;
 use m_key::Key;
 
 /// The kinds that are asked of a record that doesn't end the reading of its block, in their order.

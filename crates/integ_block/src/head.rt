@@ -7,8 +7,8 @@ ghost use Rattle.gds_law.specs.Kinds.{ends};
 ghost use Rattle.integ_block.specs.Reading.{reading, faults_at};
 
 use crate::IntegError;
-use crate::fields::{u16_at, u64_at};
 use crate::reading::Reading;
+use gds_block::{u16_at, u64_at};
 use gds_law::{FaultKind, FaultSink};
 
 /// The kinds that are asked of a block's head, in their order.

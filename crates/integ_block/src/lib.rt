@@ -13,7 +13,6 @@ mod compare;
 mod copies;
 mod entry;
 mod error;
-mod fields;
 mod head;
 mod key;
 mod reading;

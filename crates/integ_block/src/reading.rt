@@ -7,8 +7,8 @@ ghost use Rattle.integ_block.specs.Seen.{visit_of};
 ghost use Rattle.integ_block.specs.Reading.{reading};
 
 use crate::compare::is_below;
-use crate::fields::u32_at;
 use crate::{At, IntegError};
+use gds_block::u32_at;
 use gds_header::Header;
 use gds_law::{Fault, FaultKind, FaultSink, Role};
 

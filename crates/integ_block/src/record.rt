@@ -10,14 +10,14 @@ ghost use Rattle.integ_block.specs.Reading.{reading};
 ghost use Rattle.integ_block.specs.Entry.{children_here, faults_here, kinds_here, seen, IsEntry, IsCount, IsKeyPart, LeavesHere};
 ghost use Rattle.integ_block.specs.Seen.{seen_child};
 
-use crate::compare::{end_in, ends_in_zero};
-use crate::copies::{bound_of, joined, key_of, role_of};
+use crate::copies::{bound_of, key_of, role_of};
 use crate::entry::{Entry, Step};
 use crate::key::{key_fault, name_part};
 use crate::reading::Reading;
 use crate::{Child, IntegError};
 use gds_block::RecordView;
 use gds_law::{FaultKind, FaultSink, Role};
+use gds_pack::{end_in, ends_in_zero, join_key};
 use m_key::Key;
 
 /// Where the first record of a block stands.
@@ -121,7 +121,7 @@ impl<'a> Record<'a> {
         self.check_count()?;
         let len = self.key_part()?;
         let (end, rest) = self.view.body.split_at(len);
-        let key = joined(&self.previous[..self.view.count as usize], end);
+        let key = join_key(&self.previous[..self.view.count as usize], end);
         let fault = key_fault(key.as_slice());
         Ok(Entry {
             record: self,
