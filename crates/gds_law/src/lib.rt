@@ -6,6 +6,7 @@
 mod fault;
 mod kind;
 mod laws;
+mod line_laws;
 mod path;
 mod path_laws;
 mod role;
@@ -15,6 +16,7 @@ mod sound_laws;
 pub use fault::Fault;
 pub use kind::FaultKind;
 pub use laws::{bytes_test, key_test, text_test};
+pub use line_laws::lines;
 pub use path::Path;
 pub use path_laws::{fault_lists, kept_paths};
 pub use role::Role;
