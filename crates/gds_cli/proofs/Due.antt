@@ -4,8 +4,8 @@ use Rattle.std.specs.Prelude.{MatchBool, IsSomeAnd}
 use Rattle.std.specs.Option.{ForSome}
 use Rattle.arrayvec.specs.ArrayVec.{ArrayVec}
 use Rattle.host_model.specs.Files.{Contents, saying}
-use Rattle.host_model.specs.Faults.{Faults, NoneRose, Rose}
-use Rattle.host_model.specs.Told.{GoesOn}
+use Rattle.host_model.specs.Failures.{Failures, NoneRose, Rose}
+use Rattle.host_model.specs.Told.{TellsOn}
 use Rattle.m_key.specs.Globals.{Globals}
 use Rattle.m_text.specs.Extract.{zwr}
 use Rattle.gds_cli.specs.declared.words.Command.{Command}
@@ -71,40 +71,40 @@ pub record IsDueAt (mid : Option Contents) (due : Reply → Type 0) (reply : Rep
   pub is : due reply
   pub only : (r : Reply) → due r → r ≡ reply
 
-pub goes_ends : (told mid now : Option Contents) (due : Contents → Reply → Type 0) (reply : Reply) (status : Status) → ForSome told (λ c. IsDueAt mid (due c) reply c) → GoesOn mid now (Answers reply status) → GoesOn told now (λ before after. Ends (due before) status before after)
+pub goes_ends : (told mid now : Option Contents) (due : Contents → Reply → Type 0) (reply : Reply) (status : Status) → ForSome told (λ c. IsDueAt mid (due c) reply c) → TellsOn mid now (Answers reply status) → TellsOn told now (λ before after. Ends (due before) status before after)
 goes_ends None mid now due reply status known answered = tt
 goes_ends (Some c) mid now due reply status known answered =
     let at = known c refl in
-    let P : Option Contents → Type 0 = λ o. GoesOn o now (Answers reply status) in
+    let P : Option Contents → Type 0 = λ o. TellsOn o now (Answers reply status) in
     some_and now (Answers reply status c) (λ d. Ends (due c) status c d) (λ d. ends_of (due c) reply status c d at.is at.only) (subst P at.same answered)
 
 -- the words are known, and the reply that is due for them was said
-pub goes_reply : (told now : Option Contents) (command known : Result Command BadWords) (reply : Reply) (status : Status) → command ≡ known → ((c : Contents) → Due known c reply) → GoesOn told now (Answers reply status) → GoesOn told now (λ before after. Ends (Due command before) status before after)
+pub goes_reply : (told now : Option Contents) (command known : Result Command BadWords) (reply : Reply) (status : Status) → command ≡ known → ((c : Contents) → Due known c reply) → TellsOn told now (Answers reply status) → TellsOn told now (λ before after. Ends (Due command before) status before after)
 goes_reply told now command known reply status is due answered =
-    let P : Result Command BadWords → Type 0 = λ k. GoesOn told now (λ before after. Ends (Due k before) status before after) in
+    let P : Result Command BadWords → Type 0 = λ k. TellsOn told now (λ before after. Ends (Due k before) status before after) in
     subst P (sym is) (goes_ends told told now (Due known) reply status (λ c tells. record { same = tells; is = due c; only = λ r d. one_due known c r reply d (due c) }) answered)
 
-pub goes_extract : (told now : Option Contents) (command : Result Command BadWords) (stamp : ArrayVec ℕ) (text : List ℕ) (status : Status) → command ≡ Ok (Extract stamp) → text ≡ stamp.items → GoesOn told now (λ before after. Ends (ExtractDue text before) status before after) → GoesOn told now (λ before after. Ends (Due command before) status before after)
+pub goes_extract : (told now : Option Contents) (command : Result Command BadWords) (stamp : ArrayVec ℕ) (text : List ℕ) (status : Status) → command ≡ Ok (Extract stamp) → text ≡ stamp.items → TellsOn told now (λ before after. Ends (ExtractDue text before) status before after) → TellsOn told now (λ before after. Ends (Due command before) status before after)
 goes_extract told now command stamp text status is same ends =
-    let P : Result Command BadWords → Type 0 = λ k. GoesOn told now (λ before after. Ends (Due k before) status before after) in
-    let Q : List ℕ → Type 0 = λ t. GoesOn told now (λ before after. Ends (ExtractDue t before) status before after) in
+    let P : Result Command BadWords → Type 0 = λ k. TellsOn told now (λ before after. Ends (Due k before) status before after) in
+    let Q : List ℕ → Type 0 = λ t. TellsOn told now (λ before after. Ends (ExtractDue t before) status before after) in
     subst P (sym is) (subst Q same ends)
 
 -- nothing was said
-pub goes_silent : (told : Option Contents) (due : Contents → Reply → Type 0) → GoesOn told told (λ before after. Ends (due before) ended.Memory before after)
+pub goes_silent : (told : Option Contents) (due : Contents → Reply → Type 0) → TellsOn told told (λ before after. Ends (due before) ended.Memory before after)
 goes_silent None due = tt
 goes_silent (Some c) due = ([], ap (λ (said : List ℕ). record c { said = said }) (sym (append-nil c.said)), λ (reply : Reply) (d : due c reply). (0, refl))
 
-pub goes_untold : (told now : Option Contents) (R : Contents → Contents → Type 0) → told ≡ None → GoesOn told now R
-goes_untold told now R none = let P : Option Contents → Type 0 = λ o. GoesOn o now R in subst P (sym none) tt
+pub goes_untold : (told now : Option Contents) (R : Contents → Contents → Type 0) → told ≡ None → TellsOn told now R
+goes_untold told now R none = let P : Option Contents → Type 0 = λ o. TellsOn o now R in subst P (sym none) tt
 
 -- ---- the ends of an extract
 
-goes_on : (told now : Option Contents) (R : Contents → Contents → Type 0) → ForSome told (λ c. (d : Contents) × (now ≡ Some d) × R c d) → GoesOn told now R
+goes_on : (told now : Option Contents) (R : Contents → Contents → Type 0) → ForSome told (λ c. (d : Contents) × (now ≡ Some d) × R c d) → TellsOn told now R
 goes_on None now R known = tt
 goes_on (Some c) now R known = let p = known c refl in let P : Option Contents → Type 0 = λ o. IsSomeAnd o (R c) in subst P (sym p.1) p.2
 
-pub extract_done : (told now : Option Contents) (stamp : List ℕ) → ForSome told (λ c. SaysThin stamp c true now) → GoesOn told now (λ before after. Ends (ExtractDue stamp before) ended.Done before after)
+pub extract_done : (told now : Option Contents) (stamp : List ℕ) → ForSome told (λ c. SaysThin stamp c true now) → TellsOn told now (λ before after. Ends (ExtractDue stamp before) ended.Done before after)
 extract_done told now stamp known =
     goes_on told now (λ before after. Ends (ExtractDue stamp before) ended.Done before after) (λ c tells.
     let p = known c tells in
@@ -123,7 +123,7 @@ extract_other told mid stamp known c tells =
           due;
     }
 
-pub extract_breaks : (told now : Option Contents) (stamp : List ℕ) (status : Status) → is_break status ≡ true → ForSome told (λ c. BreaksOff c (ExtractDue stamp c) now) → GoesOn told now (λ before after. Ends (ExtractDue stamp before) status before after)
+pub extract_breaks : (told now : Option Contents) (stamp : List ℕ) (status : Status) → is_break status ≡ true → ForSome told (λ c. BreaksOff c (ExtractDue stamp c) now) → TellsOn told now (λ before after. Ends (ExtractDue stamp before) status before after)
 extract_breaks told now stamp status is known =
     goes_on told now (λ before after. Ends (ExtractDue stamp before) status before after) (λ c tells.
     let b = known c tells in
@@ -140,7 +140,7 @@ ends_whole due ended.ReadFault before after e read say = absurd (read refl)
 ends_whole due ended.SayFault before after e read say = absurd (say refl)
 ends_whole due other before after e read say = inr (e.0, e.1, e.2, ap Some e.3)
 
-pub complete : (told now : Option Contents) (due : Contents → Reply → Type 0) (status : Status) (f g : Faults) → GoesOn told now (λ before after. Ends (due before) status before after) → (status ≡ ended.ReadFault → Rose f.read g.read) → (status ≡ ended.SayFault → Rose f.say g.say) → NoneRose f g → IfSome told (λ before. (status ≡ ended.Memory) ⊎ ((reply : Reply) × due before reply × (status ≡ reply.status) × (now ≡ Some (saying before reply.text))))
+pub complete : (told now : Option Contents) (due : Contents → Reply → Type 0) (status : Status) (f g : Failures) → TellsOn told now (λ before after. Ends (due before) status before after) → (status ≡ ended.ReadFault → Rose f.read g.read) → (status ≡ ended.SayFault → Rose f.say g.say) → NoneRose f g → IfSome told (λ before. (status ≡ ended.Memory) ⊎ ((reply : Reply) × due before reply × (status ≡ reply.status) × (now ≡ Some (saying before reply.text))))
 complete None now due status f g goes read say none = tt
 complete (Some c) None due status f g goes read say none = absurd goes
 complete (Some c) (Some d) due status f g goes read say none = ends_whole (due c) status c d goes (λ is. none.read (read is)) (λ is. none.say (say is))

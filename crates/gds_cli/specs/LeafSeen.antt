@@ -3,7 +3,7 @@ use Rattle.std.specs.Prelude.{ℕ, suc, ◌≡◌, ◌≤◌, ◌+◌, Bool, ◌
 use Rattle.std.specs.List.{common_prefix_len}
 use Rattle.std.specs.Ordering.{nat_cmp, is_lt}
 use Rattle.std.specs.Cmp.Lexicographic.{slice_cmp}
-use Rattle.m_key.specs.Seen.{place_of}
+use Rattle.m_key.specs.Reference.{place_of}
 use Rattle.gds_block.specs.Block.{used_of}
 use Rattle.gds_block.specs.Record.{Record, records_of}
 use Rattle.gds_header.specs.declared.header.Header.{Header}

@@ -1,7 +1,7 @@
 -- What the parts of an extract find in the files, and what they blame.
 use Rattle.std.specs.Prelude.{ℕ, ◌≡◌, ◌<◌, ◌≤◌, ◌^◌, Bool, not, ◌&&◌, ◌==◌, nat_eq, nat_le, IsTrue, List, [], ◌∷◌, length, map, flat_map, slice_range}
 use Rattle.std.specs.List.{AllByRecursion, AllZip, IsDistinct, list_all, list_any}
-use Rattle.host_model.specs.Faults.{Faults, Rose}
+use Rattle.host_model.specs.Failures.{Failures, Rose}
 use Rattle.gds_header.specs.declared.header.Header.{Header}
 use Rattle.gds_header.specs.Fields.{fields_of, file_length_of, block_of}
 use Rattle.gds_header.specs.Kinds.{IsWithinLimits, header_faults, has_free, groups_past}
@@ -11,7 +11,7 @@ use Rattle.gds_cli.specs.declared.thin.trouble.Trouble.{Trouble}
 use Rattle.gds_cli.specs.declared.thin.trouble.Trouble.TheVariants.{Memory, Read, Say, Changed}
 
 -- the count of the fault that is blamed rose
-abbrev pub Blames : Trouble → Faults → Faults → Type 0
+abbrev pub Blames : Trouble → Failures → Failures → Type 0
 Blames Memory before now = Unit {0}
 Blames Read before now = Rose before.read now.read
 Blames Say before now = Rose before.say now.say

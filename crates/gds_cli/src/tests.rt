@@ -244,7 +244,7 @@ impl Host for Shrinking {
 
     ghost moment = { λ host. host.clock };
 
-    ghost faults = { λ _. record { read = 0; write = 0; say = 0 } };
+    ghost failures = { λ _. record { read = 0; write = 0; say = 0 } };
 
     // Nothing is known of a crash, as if none could come.
     ghost left_since = { λ _ t c. ⊥ };

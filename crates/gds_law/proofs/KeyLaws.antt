@@ -17,7 +17,7 @@ use Rattle.m_key.proofs.ZeroLemmas.{NoZero}
 use Rattle.m_key.proofs.KeyLemmas as keys
 use Rattle.m_key.proofs.KeyLemmas.{Right}
 use Rattle.m_key.proofs.Numbers.{numbers}
-use Rattle.gds_pack.specs.Key.{key_len}
+use Rattle.m_key.specs.KeyEnd.{key_len}
 use Rattle.gds_law.specs.Number.{is_number_text, is_number_bytes}
 use Rattle.gds_law.specs.Key.{name_part, subscript_parts, is_name, unescaped, is_text, subscript_fault, first_fault, key_fault}
 use Rattle.gds_law.specs.declared.kind.FaultKind.{FaultKind}

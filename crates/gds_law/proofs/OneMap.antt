@@ -8,7 +8,7 @@ use Rattle.std.proofs.lemmas.List.Elements.{recursion_from_All}
 use Rattle.m_key.specs.Key.{key_bytes}
 use Rattle.m_key.specs.Globals.{Globals, Place, place_cmp}
 use Rattle.m_key.proofs.PlaceLemmas.{place_total, place_same}
-use Rattle.gds_pack.specs.Item.{Item}
+use Rattle.gds_block.specs.Item.{Item}
 use Rattle.gds_law.specs.Path.{Steps}
 use Rattle.gds_law.specs.Stands.{values_at, StandsFor}
 use Rattle.gds_law.specs.Faults.{AreFaults}

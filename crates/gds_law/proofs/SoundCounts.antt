@@ -1,7 +1,7 @@
 -- How often a block is at the end of the paths that lead on from a visit: as often as it is in the sound trees there.
 use Rattle.std.proofs.Common.{◌≡◌, ℕ, zero, suc, ◌+◌, ◌<◌, ◌≤◌, ◌==◌, if◌then◌else◌, List, [], ◌∷◌, ◌++◌, map, flat_map, Option, None, Some, inl, inr, refl, sym, ap, subst, ◌∙◌, arith, append_assoc}
 use Rattle.std.specs.Option.{option_map_or}
-use Rattle.gds_pack.specs.Item.{Item}
+use Rattle.gds_block.specs.Item.{Item}
 use Rattle.gds_law.specs.Visit.{TreeRole, directory, global, Visit, Child}
 use Rattle.gds_law.specs.Path.{children_at}
 use Rattle.gds_law.specs.Sound.{Tree, joined, forest_of, items_at, sound_tree, tree_at, root_of}

@@ -10,9 +10,9 @@ use Rattle.gds_header.specs.Fields.{fields_of, place_of, block_of}
 use Rattle.gds_block.specs.Record.{Record, records_of, records_up_to, first_record, is_well_sized, bytes_left}
 use Rattle.gds_block.specs.Record as block
 use Rattle.gds_block.specs.Block.{used_of}
-use Rattle.gds_pack.specs.Item.{Item}
-use Rattle.gds_pack.specs.Key.{key_len}
-use Rattle.gds_pack.proofs.KeyLaws.{key_len-end_in, end_in-take_same, key_len-within}
+use Rattle.gds_block.specs.Item.{Item}
+use Rattle.m_key.specs.KeyEnd.{key_len}
+use Rattle.m_key.proofs.KeyEndLemmas.{key_len-end_in, end_in-take_same, key_len-within}
 use Rattle.gds_law.specs.Kinds.{record_kinds}
 use Rattle.gds_law.specs.Visit.{TreeRole, Visit}
 use Rattle.gds_law.specs.Key.{name_part, subscript_parts, is_name, subscript_fault, first_fault, key_fault, is_text, unescaped}

@@ -6,7 +6,7 @@ use Rattle.std.specs.Option.{option_map_or}
 use Rattle.std.proofs.lemmas.Bool.{cond-true}
 use Rattle.gds_header.specs.declared.kind.HeaderKind.{HeaderKind}
 use Rattle.gds_header.specs.Kinds.{ends, header_faults, ending_kind}
-use Rattle.gds_pack.specs.Item.{Item}
+use Rattle.gds_block.specs.Item.{Item}
 use Rattle.gds_law.specs.Kinds.{fault_kind_of}
 use Rattle.gds_law.specs.Visit.{TreeRole, directory, global, Visit, Child, directory_root}
 use Rattle.gds_law.specs.Path.{Steps, children_at, visit_from, AreKept, AreReached}

@@ -12,7 +12,7 @@ use Rattle.gds_header.specs.Fields.{block_of}
 use Rattle.gds_block.specs.Record.{Record, records_of, records_up_to, first_record, is_well_sized, least_size, bytes_left}
 use Rattle.gds_block.specs.Record as block
 use Rattle.gds_block.specs.Block.{used_of}
-use Rattle.gds_pack.specs.Item.{Item}
+use Rattle.gds_block.specs.Item.{Item}
 use Rattle.gds_law.specs.Kinds.{record_kinds}
 use Rattle.gds_law.specs.Visit.{Visit, Child}
 use Rattle.gds_law.specs.Reading.{Reading, Seen, is_first, is_last, size_of, key_of, pointer_of}

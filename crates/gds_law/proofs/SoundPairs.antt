@@ -19,8 +19,8 @@ use Rattle.m_key.proofs.ZeroLemmas.{NoZero, cmp-ended, cmp-same}
 use Rattle.m_key.proofs.KeyLemmas as keys
 use Rattle.m_key.proofs.Numbers.{numbers}
 use Rattle.m_key.proofs.PlaceLemmas.{place_total, place_same}
-use Rattle.gds_pack.specs.Item.{Item}
-use Rattle.gds_pack.specs.Key.{key_len}
+use Rattle.gds_block.specs.Item.{Item}
+use Rattle.m_key.specs.KeyEnd.{key_len}
 use Rattle.gds_law.specs.Visit.{TreeRole, directory, global, directory_root}
 use Rattle.gds_law.specs.Key.{name_part, subscript_parts, key_fault}
 use Rattle.gds_law.specs.Record.{is_other_global}

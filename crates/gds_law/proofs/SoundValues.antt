@@ -4,7 +4,7 @@ use Rattle.std.specs.List.{AllZip}
 use Rattle.std.specs.Option.{option_map_or}
 use Rattle.std.proofs.lemmas.Bool.{cond-true, cond-false, eq-eqb, eqb-true}
 use Rattle.gds_header.specs.Fields.{block_of}
-use Rattle.gds_pack.specs.Item.{Item}
+use Rattle.gds_block.specs.Item.{Item}
 use Rattle.gds_law.specs.Visit.{TreeRole, directory, global, Visit, Child, directory_root}
 use Rattle.gds_law.specs.Reading.{Reading, has_values, points}
 use Rattle.gds_law.specs.Path.{Steps, children_at, child_at, visit_from, visit_at, AreKept}

@@ -4,7 +4,7 @@ use Rattle.gds_block.specs.Fields.{u32_at}
 use Rattle.gds_block.specs.Block.{level_of, used_of}
 use Rattle.gds_block.specs.Record.{Record}
 use Rattle.gds_header.specs.declared.header.Header.{Header}
-use Rattle.gds_pack.specs.Key.{key_len}
+use Rattle.m_key.specs.KeyEnd.{key_len}
 use Rattle.gds_law.specs.Visit.{TreeRole, directory, global, Visit}
 
 -- a block as it is read: the file's header, what is due at the block, its level byte and its used count

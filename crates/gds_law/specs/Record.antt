@@ -5,7 +5,7 @@ use Rattle.std.specs.Option.{option_map_or}
 use Rattle.std.specs.Ordering.{nat_cmp, is_lt}
 use Rattle.std.specs.Cmp.Lexicographic.{slice_cmp}
 use Rattle.gds_header.specs.Kinds.{through_first}
-use Rattle.gds_pack.specs.Key.{shared}
+use Rattle.m_key.specs.KeyEnd.{shared}
 use Rattle.gds_law.specs.Kinds.{ends, record_kinds}
 use Rattle.gds_law.specs.Visit.{TreeRole, directory, global, Visit, Child, global_root}
 use Rattle.gds_law.specs.Reading.{Reading, Seen, is_first, size_of, is_last, full_of, key_end, key_of, rest_of, points, pointer_of}

@@ -4,7 +4,7 @@ use Rattle.std.specs.List.{AllByRecursion, filter_map, range_with_len}
 use Rattle.gds_block.specs.Block.{level_of}
 use Rattle.gds_bitmap.specs.Bitmap.{pair_of}
 use Rattle.gds_header.specs.Fields.{fields_of, block_of}
-use Rattle.gds_pack.specs.Item.{Item}
+use Rattle.gds_block.specs.Item.{Item}
 use Rattle.gds_pack.specs.Packed.{packed_size}
 use Rattle.gds_pack.specs.Unpacked.{entries_of}
 use Rattle.gds_law.specs.Visit.{Visit, Child}

@@ -9,7 +9,7 @@ use Rattle.gds_block.specs.Block.{version_of, reserved_of, level_of, used_of, tn
 use Rattle.gds_bitmap.specs.Bitmap.{pair_of, is_free_at}
 use Rattle.gds_header.specs.Fields.{fields_of, block_of}
 use Rattle.gds_header.specs.Kinds.{header_faults, groups_of, has_free}
-use Rattle.gds_pack.specs.Item.{Item}
+use Rattle.gds_block.specs.Item.{Item}
 use Rattle.gds_law.specs.Visit.{Visit, Child, directory_root, global_root}
 use Rattle.gds_law.specs.Reading.{reading_of}
 use Rattle.gds_law.specs.Key.{name_part}

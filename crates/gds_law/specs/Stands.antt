@@ -11,7 +11,7 @@ use Rattle.m_key.specs.Collation.{subscript_cmp, reference_cmp}
 use Rattle.m_key.specs.Globals.{Globals, Place, is_led}
 use Rattle.gds_block.specs.Record.{Record, records_of}
 use Rattle.gds_header.specs.Fields.{fields_of, block_of}
-use Rattle.gds_pack.specs.Item.{Item}
+use Rattle.gds_block.specs.Item.{Item}
 use Rattle.gds_law.specs.Reading.{Reading, Seen, reading_of, key_of, rest_of, points}
 use Rattle.gds_law.specs.Record.{is_ended}
 use Rattle.gds_law.specs.Path.{Steps, visit_at, AreKept}

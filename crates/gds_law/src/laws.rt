@@ -4,7 +4,7 @@ ghost use Rattle.m_number.specs.Text.{text_of};
 ghost use Rattle.m_number.specs.Bytes.{bytes_of};
 ghost use Rattle.m_key.specs.Node.{Node, IsNode};
 ghost use Rattle.m_key.specs.Key.{key_bytes};
-ghost use Rattle.gds_pack.specs.Key.{key_len};
+ghost use Rattle.m_key.specs.KeyEnd.{key_len};
 ghost use Rattle.gds_law.specs.Number.{is_number_text, is_number_bytes};
 ghost use Rattle.gds_law.specs.Key.{key_fault};
 

@@ -1,5 +1,5 @@
 ghost use Rattle.std.specs.Prelude.{◌≡◌, ◌≤◌, ℕ, List, [], ◌∷◌, ◌++◌, OnOk, OnErr, IsErrOf};
-ghost use Rattle.host_model.specs.Faults.{Rose};
+ghost use Rattle.host_model.specs.Failures.{Rose};
 ghost use Rattle.gds_law.specs.Seen.{Told, told_of};
 
 use crate::Fault;

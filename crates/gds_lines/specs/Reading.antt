@@ -1,8 +1,8 @@
 -- Where a reader of lines stands, and what a call of it leaves.
 use Rattle.std.specs.Prelude.{◌≡◌, ◌↔◌, ◌<◌, ◌≤◌, ℕ, Bool, List, ◌++◌, Option, Result, is_err, OnSome, IfOk, OnOk}
 use Rattle.std.specs.Result.{IsErrOf}
-use Rattle.host_model.specs.Faults.{Rose}
-use Rattle.host_model.specs.Told.{GoesOn}
+use Rattle.host_model.specs.Failures.{Rose}
+use Rattle.host_model.specs.Told.{TellsOn}
 use Rattle.gds_lines.specs.declared.TheConstants.{INPUT_LIMIT}
 use Rattle.gds_lines.specs.declared.error.LinesError.{LinesError}
 use Rattle.gds_lines.specs.declared.error.LinesError.TheVariants.{InputFault, InputTooLong}
@@ -16,12 +16,12 @@ pub record Reading : Type 0 where
   pub passed : ℕ
   pub taken : ℕ
   pub refused : Bool
-  pub faults : ℕ
+  pub failures : ℕ
 
 -- what a call for the next line leaves
 pub record LineTaken {T : Type 0} (old : Reading) (result : Result (Option T) LinesError) (new : Reading) : Type 0 where
   -- the first line is off the text
-  pub left : OnOk result (GoesOn old.left new.left (λ text rest. rest ≡ after_first_line text))
+  pub left : OnOk result (TellsOn old.left new.left (λ text rest. rest ≡ after_first_line text))
   -- each line has a byte at least, or its line end
   pub passed : IfOk result (λ line. OnSome line (old.passed < new.passed))
   pub onward : old.passed ≤ new.passed
@@ -29,9 +29,9 @@ pub record LineTaken {T : Type 0} (old : Reading) (result : Result (Option T) Li
   pub short : OnOk result (new.taken ≤ INPUT_LIMIT)
   pub refused : new.refused ≡ is_err result
   pub too_long : IsErrOf result InputTooLong ↔ (INPUT_LIMIT < new.taken)
-  pub fault : IsErrOf result InputFault → Rose old.faults new.faults
+  pub fault : IsErrOf result InputFault → Rose old.failures new.failures
   pub taken : old.taken ≤ new.taken
-  pub faults : old.faults ≤ new.faults
+  pub failures : old.failures ≤ new.failures
 
 -- The second text is the end of the first.
 abbrev pub IsEnd : List ℕ → List ℕ → Type 0

@@ -1,7 +1,7 @@
 ghost use Rattle.std.specs.Prelude.{◌≡◌, ◌+◌, ◌<◌, ◌≤◌, [], ◌++◌, ℕ, length, take, drop, slice_range, vec_len, Some, IfSome, OnSome, IfOk, OnOk, OnErr};
 ghost use Rattle.std.specs.Option.{option_map};
-ghost use Rattle.host_model.specs.Faults.{Rose};
-ghost use Rattle.host_model.specs.Told.{GoesOn};
+ghost use Rattle.host_model.specs.Failures.{Rose};
+ghost use Rattle.host_model.specs.Told.{TellsOn};
 ghost use Rattle.gds_lines.specs.Lines.{line_len, next_line, after_first_line};
 ghost use Rattle.gds_lines.specs.declared.ahead.TheConstants.{BUFFER_LIMIT};
 
@@ -123,11 +123,11 @@ impl Ahead {
         ensures held { take (length (held self.old)) (held self.new) ≡ held self.old }
         ensures kept { OnErr result (length (held self.new) ≡ length (held self.old)) }
         ensures few { IfOk result (λ n. n ≤ BUFFER_LIMIT) }
-        ensures text { IfOk result (λ n. GoesOn (text_left self.old (I.left source.old))
+        ensures text { IfOk result (λ n. TellsOn (text_left self.old (I.left source.old))
             (text_left self.new (I.left source.new))
             (λ old new. (new ≡ old) × (n ≡ 0 → new ≡ held self.new))) }
-        ensures faults { I.faults source.old ≤ I.faults source.new }
-        ensures failed { OnErr result (Rose (I.faults source.old) (I.faults source.new)) }
+        ensures failures { I.failures source.old ≤ I.failures source.new }
+        ensures failed { OnErr result (Rose (I.failures source.old) (I.failures source.new)) }
     {
         let n = take_behind(source, &mut self.buffer, self.to)?;
         self.to += n;
@@ -183,10 +183,10 @@ fn take_behind<I: Source>(
     ensures len { vec_len buffer.new ≡ vec_len buffer.old }
     ensures count { IfOk result (λ n. at + n ≤ vec_len buffer.old) }
     ensures before { take at buffer.new.items ≡ take at buffer.old.items }
-    ensures given { IfOk result (λ n. GoesOn (I.left source.old) (I.left source.new)
+    ensures given { IfOk result (λ n. TellsOn (I.left source.old) (I.left source.new)
         (λ old new. (old ≡ take n (drop at buffer.new.items) ++ new) × (n ≡ 0 → old ≡ []))) }
-    ensures faults { I.faults source.old ≤ I.faults source.new }
-    ensures failed { OnErr result (Rose (I.faults source.old) (I.faults source.new)) }
+    ensures failures { I.failures source.old ≤ I.failures source.new }
+    ensures failed { OnErr result (Rose (I.failures source.old) (I.failures source.new)) }
 {
     source.take(&mut buffer[at..])
 }

@@ -1,8 +1,8 @@
 ghost use Rattle.std.specs.Prelude.{◌≡◌, ◌↔◌, ◌+◌, ◌<◌, ◌≤◌, ℕ, length, take, vec_len, IfSome, OnSome, IfOk, OnOk};
 ghost use Rattle.std.specs.Option.{option_map};
 ghost use Rattle.std.specs.Result.{IsErrOf};
-ghost use Rattle.host_model.specs.Faults.{Rose};
-ghost use Rattle.host_model.specs.Told.{GoesOn};
+ghost use Rattle.host_model.specs.Failures.{Rose};
+ghost use Rattle.host_model.specs.Told.{TellsOn};
 ghost use Rattle.gds_lines.specs.Lines.{after_first_line, next_line};
 ghost use Rattle.gds_lines.specs.Ahead.{held, part, text_left};
 
@@ -23,7 +23,7 @@ pub(crate) fn find_line<I: Source>(
         (λ text. option_map (part ahead.new) found ≡ next_line text)) }
     ensures within { IfOk result
         (λ found. IfSome found (λ span. span.to ≤ vec_len ahead.new.buffer)) }
-    ensures left { OnOk result (GoesOn (text_left ahead.old (I.left source.old))
+    ensures left { OnOk result (TellsOn (text_left ahead.old (I.left source.old))
         (text_left ahead.new (I.left source.new)) (λ text rest. rest ≡ after_first_line text)) }
     ensures held { length (held ahead.new) ≤ taken.new }
     ensures onward { taken.old + length (held ahead.new) ≤ taken.new + length (held ahead.old) }
@@ -31,9 +31,9 @@ pub(crate) fn find_line<I: Source>(
         (taken.old + length (held ahead.new) < taken.new + length (held ahead.old))) }
     ensures taken { taken.old ≤ taken.new }
     ensures too_long { IsErrOf result LinesError.InputTooLong ↔ (INPUT_LIMIT < taken.new) }
-    ensures faults { I.faults source.old ≤ I.faults source.new }
+    ensures failures { I.failures source.old ≤ I.failures source.new }
     ensures fault { IsErrOf result LinesError.InputFault
-        → Rose (I.faults source.old) (I.faults source.new) }
+        → Rose (I.failures source.old) (I.failures source.new) }
 {
     let mut scanned = 0;
     loop {
@@ -52,7 +52,7 @@ pub(crate) fn find_line<I: Source>(
 fn fill<I: Source>(source: &mut I, ahead: &mut Ahead, taken: &mut u64) -> Result<usize, LinesError>
     requires short { length (held ahead.old) ≤ LINE_LIMIT + 2 }
     requires taken { taken.old ≤ INPUT_LIMIT }
-    ensures text { IfOk result (λ n. GoesOn (text_left ahead.old (I.left source.old))
+    ensures text { IfOk result (λ n. TellsOn (text_left ahead.old (I.left source.old))
         (text_left ahead.new (I.left source.new))
         (λ old new. (new ≡ old) × (n ≡ 0 → new ≡ held ahead.new))) }
     ensures held { take (length (held ahead.old)) (held ahead.new) ≡ held ahead.old }
@@ -62,9 +62,9 @@ fn fill<I: Source>(source: &mut I, ahead: &mut Ahead, taken: &mut u64) -> Result
     ensures within { OnOk result (taken.new ≤ INPUT_LIMIT) }
     ensures taken { taken.old ≤ taken.new }
     ensures too_long { IsErrOf result LinesError.InputTooLong ↔ (INPUT_LIMIT < taken.new) }
-    ensures faults { I.faults source.old ≤ I.faults source.new }
+    ensures failures { I.failures source.old ≤ I.failures source.new }
     ensures fault { IsErrOf result LinesError.InputFault
-        → Rose (I.faults source.old) (I.faults source.new) }
+        → Rose (I.failures source.old) (I.failures source.new) }
 {
     ahead.make_room()?;
     let n = ahead.take(source)?;

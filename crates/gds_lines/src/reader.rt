@@ -2,7 +2,7 @@ ghost use Rattle.std.specs.Prelude.{◌≡◌, false, IfOk, IfSome, IsFalse};
 ghost use Rattle.std.specs.Option.{option_copied};
 ghost use Rattle.std.specs.Borrow.{sem};
 ghost use Rattle.std.specs.Io.BufRead.{Rests};
-ghost use Rattle.host_model.specs.Told.{GoesOn};
+ghost use Rattle.host_model.specs.Told.{TellsOn};
 ghost use Rattle.gds_lines.specs.Lines.{next_line};
 ghost use Rattle.gds_lines.specs.Reading.{IsEnd, LineTaken};
 
@@ -36,7 +36,7 @@ impl<I: Source> Model for Lines<I> {
       passed = l.taken - length (held l.ahead);
       taken = l.taken;
       refused = l.refused;
-      faults = I.faults l.source;
+      failures = I.failures l.source;
     } };
 
     ghost invariant = { λ l. (length (held l.ahead) ≤ l.taken)
@@ -53,7 +53,7 @@ impl<I: Source> Lines<I> {
           passed = 0;
           taken = 0;
           refused = false;
-          faults = I.faults source;
+          failures = I.failures source;
         } }
     {
         Lines {
@@ -86,8 +86,8 @@ impl<I: Source> Lines<I> {
 
     /// The source. Bytes that were taken from it and not given are lost.
     pub fn into_source(self) -> I
-        ensures left { GoesOn self.left (I.left result) IsEnd }
-        ensures faults { I.faults result ≡ self.faults }
+        ensures left { TellsOn self.left (I.left result) IsEnd }
+        ensures failures { I.failures result ≡ self.failures }
     {
         self.source
     }

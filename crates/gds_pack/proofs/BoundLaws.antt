@@ -9,12 +9,12 @@ use Rattle.std.specs.Ordering.{ordering_then}
 use Rattle.std.proofs.lemmas.Bool.{cases_order, eq-eqb, ne_eqb, cond-true, cond-false}
 use Rattle.std.proofs.lemmas.Bool.Decides.{nat_tests}
 use Rattle.std.proofs.lemmas.List.{take_at, drop_at, take_all, drop_all}
-use Rattle.gds_pack.specs.Item.{Item}
-use Rattle.gds_pack.specs.Key.{shared}
+use Rattle.gds_block.specs.Item.{Item}
+use Rattle.m_key.specs.KeyEnd.{shared}
 use Rattle.gds_pack.specs.Packed.{records_size, packed_size, key_behind, first_key}
 use Rattle.gds_pack.specs.Packable.{IsNext, AreLeaves, AreIndex, ArePackable}
 use Rattle.gds_pack.specs.Cut.{CanBeCut}
-use Rattle.gds_pack.proofs.KeyLaws.{shared-le, shared-nil}
+use Rattle.m_key.proofs.KeyEndLemmas.{shared-le, shared-nil}
 use Rattle.gds_pack.proofs.SizeLaws.{records_size-append, records_size-behind}
 
 -- Another key before the records changes what the first of them leaves out.

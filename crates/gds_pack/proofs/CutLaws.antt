@@ -3,9 +3,9 @@ use Rattle.std.proofs.Common.{ℕ, zero, suc, ◌≡◌, ◌+◌, ◌-◌, ◌�
 use Rattle.std.specs.List.{flat_map}
 use Rattle.std.proofs.lemmas.Bool.{cases_lt}
 use Rattle.std.proofs.lemmas.List.{append-nil, take-append-drop, drop-drop, drop-take, drop_all, take-take, take_all, take-map, drop-map, length-map}
-use Rattle.gds_pack.specs.Item.{Item}
+use Rattle.gds_block.specs.Item.{Item}
 use Rattle.gds_pack.specs.Packed.{packed_size}
-use Rattle.gds_pack.specs.Seen.{item, items}
+use Rattle.gds_pack.specs.Entry.{item, items}
 use Rattle.gds_pack.specs.declared.entry.Entry.{Entry}
 use Rattle.gds_pack.specs.Cut.{runs_from, runs, AreFullRuns, CanBeCut}
 use Rattle.gds_pack.proofs.SizeLaws.{packed_size-front, packed_size-back}

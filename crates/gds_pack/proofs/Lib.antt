@@ -1,4 +1,3 @@
-pub mod KeyLaws
 pub mod SizeLaws
 pub mod PackLaws
 pub mod ReadLaws

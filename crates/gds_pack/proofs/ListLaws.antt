@@ -3,7 +3,7 @@ use Rattle.std.proofs.Common.{ℕ, zero, suc, ◌≡◌, ◌+◌, ◌<◌, ◌�
 use Rattle.std.specs.Prelude.{slice_get}
 use Rattle.std.proofs.lemmas.List.{at_drop_more, take_more, map-append, drop_all}
 use Rattle.gds_pack.specs.Packed.{record_size, record_bytes, records_size, records_bytes, key_behind}
-use Rattle.gds_pack.specs.Seen.{item, items}
+use Rattle.gds_pack.specs.Entry.{item, items}
 use Rattle.gds_pack.specs.declared.entry.Entry.{Entry}
 use Rattle.gds_pack.proofs.SizeLaws.{records_size-append, key_behind-append}
 

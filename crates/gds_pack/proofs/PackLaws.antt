@@ -3,7 +3,7 @@ use Rattle.std.proofs.Common.{ℕ, ◌≡◌, ◌-◌, ◌≤◌, List, [], ◌+
 use Rattle.std.specs.Prelude.{replicate}
 use Rattle.std.proofs.lemmas.List.{take-append-drop, take_at, drop_at, append-nil}
 use Rattle.gds_block.specs.Block.{head_bytes}
-use Rattle.gds_pack.specs.Item.{Item}
+use Rattle.gds_block.specs.Item.{Item}
 use Rattle.gds_pack.specs.Packed.{packed_size, records_bytes, block_bytes}
 use Rattle.gds_pack.proofs.SizeLaws.{length-records_bytes}
 

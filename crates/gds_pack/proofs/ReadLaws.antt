@@ -8,12 +8,12 @@ use Rattle.gds_block.specs.Block.{level_of, used_of, head_bytes, IsBlock}
 use Rattle.gds_block.specs.Fields.{u16_at}
 use Rattle.gds_block.specs.Record.{Record, bytes_left, size_of, least_size, is_well_sized, first_record, records_from, records_of, AreRecords}
 use Rattle.gds_block.proofs.RecordLaws.{records_from-unique}
-use Rattle.gds_pack.specs.Item.{Item}
-use Rattle.gds_pack.specs.Key.{IsKey, shared}
+use Rattle.gds_block.specs.Item.{Item}
+use Rattle.m_key.specs.KeyEnd.{IsKey, shared}
 use Rattle.gds_pack.specs.Packed.{record_size, record_bytes, records_size, records_bytes, packed_size, block_bytes, packed_record, packed_records}
 use Rattle.gds_pack.specs.Packable.{IsNext, AreLeaves, AreIndex, ArePackable}
 use Rattle.gds_pack.specs.Unpacked.{is_star, is_count, item_of, read_record, read_records, end_of, entries_of}
-use Rattle.gds_pack.proofs.KeyLaws.{shared-nil, take-shared, shared-below, length-key, key_len-append}
+use Rattle.m_key.proofs.KeyEndLemmas.{shared-nil, take-shared, shared-below, length-key, key_len-append}
 use Rattle.gds_pack.proofs.SizeLaws.{length-record_bytes, length-records_bytes}
 
 -- ---- one record

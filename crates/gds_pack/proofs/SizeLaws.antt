@@ -1,8 +1,8 @@
 -- Laws of the sizes of records, of their bytes, and of lists of them.
 use Rattle.std.proofs.Common.{ℕ, ◌≡◌, ◌+◌, ◌≤◌, List, [], ◌∷◌, ◌++◌, length, refl, arith, length-append, length-drop}
-use Rattle.gds_pack.specs.Item.{Item}
+use Rattle.gds_block.specs.Item.{Item}
 use Rattle.gds_pack.specs.Packed.{record_size, record_bytes, records_size, records_bytes, packed_size, key_behind}
-use Rattle.gds_pack.proofs.KeyLaws.{shared-le}
+use Rattle.m_key.proofs.KeyEndLemmas.{shared-le}
 
 pub length-record_bytes : (previous : List ℕ) (i : Item) → length (record_bytes previous i) ≡ record_size previous i
 unfolding record_bytes

@@ -6,12 +6,12 @@ use Rattle.std.proofs.lemmas.List.{take_at, drop_at, take-append-drop, append-ni
 use Rattle.std.proofs.lemmas.Option.{cond_some, option_and_then_some}
 use Rattle.gds_block.specs.Block.{level_of, used_of}
 use Rattle.gds_block.specs.Record.{Record, records_of}
-use Rattle.gds_pack.specs.Item.{Item}
-use Rattle.gds_pack.specs.Key.{key_len, end_in, zero_after, HasOpenFronts}
+use Rattle.gds_block.specs.Item.{Item}
+use Rattle.m_key.specs.KeyEnd.{key_len, end_in, zero_after, HasOpenFronts}
 use Rattle.gds_pack.specs.Unpacked.{is_star, is_count, read_record, read_records, end_of, entries_of, IsKeyPart}
 use Rattle.gds_pack.specs.Packed.{key_behind}
 use Rattle.gds_pack.proofs.SizeLaws.{key_behind-append}
-use Rattle.gds_pack.proofs.KeyLaws.{key_len-end_in, end_in-append_open, HasOpenFronts-nil, HasOpenFronts-take}
+use Rattle.m_key.proofs.KeyEndLemmas.{key_len-end_in, end_in-append_open, HasOpenFronts-nil, HasOpenFronts-take}
 
 -- ---- one record
 

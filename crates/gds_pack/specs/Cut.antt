@@ -1,6 +1,6 @@
 -- Lists of items that are cut into runs, each for a block.
 use Rattle.std.specs.Prelude.{ℕ, zero, suc, ◌≡◌, ◌≤◌, ◌<◌, ◌-◌, List, [], ◌∷◌, ◌++◌, take, drop}
-use Rattle.gds_pack.specs.Item.{Item}
+use Rattle.gds_block.specs.Item.{Item}
 use Rattle.gds_pack.specs.Packed.{packed_size}
 
 -- the runs of a list that is cut at these places, where the list itself begins at a place

@@ -1,7 +1,5 @@
-pub mod Item
-pub mod Key
 pub mod Packed
 pub mod Packable
 pub mod Unpacked
 pub mod Cut
-pub mod Seen
+pub mod Entry

@@ -3,8 +3,8 @@ use Rattle.std.specs.Prelude.{ℕ, zero, suc, ◌≡◌, List, [], ◌∷◌, le
 use Rattle.std.specs.Ordering.{nat_cmp}
 use Rattle.std.specs.Cmp.Lexicographic.{slice_cmp}
 use Rattle.std.specs.declared.cmp.Ordering.TheVariants.{Less}
-use Rattle.gds_pack.specs.Item.{Item}
-use Rattle.gds_pack.specs.Key.{IsKey}
+use Rattle.gds_block.specs.Item.{Item}
+use Rattle.m_key.specs.KeyEnd.{IsKey}
 
 -- The item's key is a whole one, above the key before it.
 pub record IsNext (previous : List ℕ) (i : Item) : Type 0 where

@@ -3,8 +3,8 @@ use Rattle.std.specs.Prelude.{ℕ, ◌+◌, ◌-◌, List, [], ◌∷◌, ◌++�
 use Rattle.std.specs.Int.{w16, to_le_bytes}
 use Rattle.gds_block.specs.Block.{head_bytes}
 use Rattle.gds_block.specs.Record.{Record}
-use Rattle.gds_pack.specs.Item.{Item}
-use Rattle.gds_pack.specs.Key.{shared}
+use Rattle.gds_block.specs.Item.{Item}
+use Rattle.m_key.specs.KeyEnd.{shared}
 
 -- the size of the record of an item behind a key
 abbrev pub record_size : List ℕ → Item → ℕ

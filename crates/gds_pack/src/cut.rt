@@ -2,7 +2,7 @@ ghost use Rattle.std.specs.Prelude.{◌≡◌, ◌+◌, ◌<◌, ◌≤◌, leng
 ghost use Rattle.std.specs.List.{flat_map};
 ghost use Rattle.gds_pack.specs.Cut.{AreFullRuns, CanBeCut, runs};
 ghost use Rattle.gds_pack.specs.Packed.{packed_size};
-ghost use Rattle.gds_pack.specs.Seen.{items};
+ghost use Rattle.gds_pack.specs.Entry.{items};
 
 use crate::entry::Entry;
 use arrayvec::ArrayVec;

@@ -1,7 +1,6 @@
-ghost use Rattle.std.specs.Prelude.{◌≡◌, ◌-◌, ◌^◌, ◌≤◌, length, min};
-ghost use Rattle.gds_pack.specs.Key.{shared};
+ghost use Rattle.std.specs.Prelude.{◌≡◌, ◌-◌, ◌^◌, length, min};
 
-use m_key::Key;
+use m_key::{Key, shared_len};
 
 /// A key and what follows it in its record. The last entry of an index block is the star, whose key is empty.
 #[derive(Debug, PartialEq, Eq, Drop)]
@@ -13,7 +12,7 @@ pub struct Entry {
 }
 
 impl Entry {
-    ghost use Rattle.gds_pack.specs.Seen.{item};
+    ghost use Rattle.gds_pack.specs.Entry.{item};
     ghost use Rattle.gds_pack.specs.Packed.{record_size};
 
     // The size of its record behind a key, at most 2^64 - 1.
@@ -23,18 +22,4 @@ impl Entry {
         let key = self.key.len() - shared_len(previous, self.key.as_slice());
         (4 + key as u64).saturating_add(self.rest.len() as u64)
     }
-}
-
-/// How many leading bytes two keys share.
-pub fn shared_len(a: &[u8], b: &[u8]) -> usize
-    ensures value { result ≡ shared a.now b.now }
-    ensures within_first { result ≤ length a.now }
-    ensures within_second { result ≤ length b.now }
-{
-    for (i, x) in a.iter().enumerate() {
-        if i == b.len() || *x != b[i] {
-            return i;
-        }
-    }
-    a.len()
 }

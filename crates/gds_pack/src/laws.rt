@@ -2,8 +2,8 @@ ghost use Rattle.std.specs.Prelude.{ℕ, ◌≡◌, ◌+◌, ◌≤◌, ◌++◌
 ghost use Rattle.gds_block.specs.Block.{IsBlock, used_of};
 ghost use Rattle.gds_block.specs.Record.{records_of};
 ghost use Rattle.gds_pack.specs.Cut.{CanBeCut};
-ghost use Rattle.gds_pack.specs.Item.{Item};
-ghost use Rattle.gds_pack.specs.Key.{shared};
+ghost use Rattle.gds_block.specs.Item.{Item};
+ghost use Rattle.m_key.specs.KeyEnd.{shared};
 ghost use Rattle.gds_pack.specs.Packable.{ArePackable};
 ghost use Rattle.gds_pack.specs.Packed.{packed_size, packed_records, block_bytes, key_behind, first_key};
 ghost use Rattle.gds_pack.specs.Unpacked.{entries_of};

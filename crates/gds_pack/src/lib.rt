@@ -14,11 +14,11 @@ mod packing;
 mod unpacking;
 
 pub use cut::cut_to_fit;
-pub use entry::{Entry, shared_len};
+pub use entry::Entry;
 pub use laws::{block_read, joined_size, part_size, size_with_one_more, three_runs};
 pub use m_key::Key;
 pub use packing::{pack, packed_size};
-pub use unpacking::{end_in, ends_in_zero, join_key, unpack};
+pub use unpacking::unpack;
 
 #[cfg(test)]
 mod tests;

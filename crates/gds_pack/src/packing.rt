@@ -3,11 +3,12 @@ ghost use Rattle.gds_block.specs.Block.{IsBlock, used_of};
 ghost use Rattle.gds_block.specs.Record.{records_of};
 ghost use Rattle.gds_pack.specs.Packable.{ArePackable};
 ghost use Rattle.gds_pack.specs.Packed.{packed_size, record_size, record_bytes, records_bytes, block_bytes, packed_records};
-ghost use Rattle.gds_pack.specs.Seen.{item, items};
+ghost use Rattle.gds_pack.specs.Entry.{item, items};
 ghost use Rattle.gds_pack.specs.Unpacked.{entries_of};
 
-use crate::entry::{Entry, shared_len};
+use crate::entry::Entry;
 use gds_block::write_head;
+use m_key::shared_len;
 
 /// How many bytes of a block are used where it has these entries: the head's 16 and the sizes of the
 /// records. It stays at 2^64 - 1 where there are more.

@@ -1,9 +1,10 @@
 ghost use Rattle.std.specs.Prelude.{◌≡◌, ◌≤◌, [], ◌∷◌, length, IfOk};
-ghost use Rattle.gds_pack.specs.Item.{Item};
-ghost use Rattle.gds_pack.specs.Seen.{item, items};
+ghost use Rattle.gds_block.specs.Item.{Item};
+ghost use Rattle.gds_pack.specs.Entry.{item, items};
 
 use super::*;
 use gds_block::BlockView;
+use m_key::join_key;
 use std::alloc::{AllocError, Global};
 use std::test::Fail;
 

@@ -1,14 +1,14 @@
 ghost use Rattle.std.specs.Prelude.{◌≡◌, None, false, ◌+◌, ◌≤◌, [], ◌++◌, length, option_map, IfOk, IfNone, IfSome};
 ghost use Rattle.arrayvec.specs.ArrayVec.{array_vec_len};
 ghost use Rattle.gds_block.specs.View.{record_of};
-ghost use Rattle.gds_pack.specs.Key.{HasOpenFronts, end_in, zero_after};
+ghost use Rattle.m_key.specs.KeyEnd.{HasOpenFronts, end_in, zero_after};
 ghost use Rattle.gds_pack.specs.Packed.{key_behind};
-ghost use Rattle.gds_pack.specs.Seen.{item, items};
+ghost use Rattle.gds_pack.specs.Entry.{item, items};
 ghost use Rattle.gds_pack.specs.Unpacked.{entries_of, is_count, is_star, read_record, IsKeyPart};
 
 use crate::entry::Entry;
 use gds_block::{BlockView, RecordView};
-use m_key::Key;
+use m_key::{Key, end_in, ends_in_zero, join_key};
 use std::alloc::{AllocError, Global};
 
 /// The entries of a block, or `None` where its records don't reach its used count, or one of them has no
@@ -113,51 +113,4 @@ fn is_count(previous: &[u8], count: usize) -> bool
     ensures { result ≡ is_count previous.now count }
 {
     count < previous.len() || count == 0
-}
-
-/// Whether there is a last byte and it is 0.
-pub fn ends_in_zero(bytes: &[u8]) -> bool
-    ensures { result ≡ zero_after false bytes.now }
-{
-    match bytes.last() {
-        Some(b) => *b == 0,
-        None => false,
-    }
-}
-
-/// The key whose bytes are those of a front and then those of an end, 255 together at most.
-pub fn join_key(front: &[u8], end: &[u8]) -> Key
-    requires { length front.now + length end.now ≤ 255 }
-    ensures { result.items ≡ front.now ++ end.now }
-{
-    let mut key = Key::new();
-    append(&mut key, front);
-    append(&mut key, end);
-    key
-}
-
-fn append(key: &mut Key, bytes: &[u8])
-    requires { array_vec_len key.old + length bytes.now ≤ 255 }
-    ensures { key.new.items ≡ key.old.items ++ bytes.now }
-{
-    for b in bytes {
-        key.push(*b);
-    }
-}
-
-/// How many bytes there are up to the end of a key: the second of the first two neighbouring zero bytes. The
-/// byte before these counts as one of the two where it is zero, which `after_zero` says. `None` where no key
-/// ends in them.
-pub fn end_in(after_zero: bool, body: &[u8]) -> Option<usize>
-    ensures value { result ≡ end_in after_zero body.now }
-    ensures within { IfSome result (λ n. n ≤ length body.now) }
-{
-    let mut zero = after_zero;
-    for (i, b) in body.iter().enumerate() {
-        if zero && *b == 0 {
-            return Some(i + 1);
-        }
-        zero = *b == 0;
-    }
-    None
 }

@@ -1,6 +1,6 @@
 -- What is known of a host and of a source over the system: paths and counts, and nothing of what they hold.
 use Rattle.std.specs.Prelude.{ℕ, Bool, if◌then◌else◌, List, ◌++◌, Option, None, Some, ◌≡◌, codes}
-use Rattle.host_model.specs.Faults.{Faults, counted}
+use Rattle.host_model.specs.Failures.{Failures, counted}
 use Rattle.host_model.specs.Files.{Contents}
 
 -- what a host and a source over the system tell of what they hold
@@ -19,7 +19,7 @@ pub record SystemHost : Type 0 where
   pub db_path : List ℕ
   pub images_path : List ℕ
   pub moment : ℕ
-  pub faults : Faults
+  pub failures : Failures
 
 -- a host over the files at a path, of which no call was made
 abbrev pub new_host : List ℕ → SystemHost
@@ -27,28 +27,28 @@ new_host path = record {
   db_path = path;
   images_path = path ++ codes ".bi";
   moment = 0;
-  faults = record { read = 0; write = 0; say = 0 };
+  failures = record { read = 0; write = 0; say = 0 };
 }
 
 -- the host after a read, by whether it answered a value
 abbrev pub after_read : Bool → SystemHost → SystemHost
 after_read ok old = record old {
   moment = counted old.moment;
-  faults = if ok then old.faults else record old.faults { read = counted old.faults.read };
+  failures = if ok then old.failures else record old.failures { read = counted old.failures.read };
 }
 
 -- the host after a saying, by whether it said all
 abbrev pub after_say : Bool → SystemHost → SystemHost
 after_say ok old = record old {
   moment = counted old.moment;
-  faults = if ok then old.faults else record old.faults { say = counted old.faults.say };
+  failures = if ok then old.failures else record old.failures { say = counted old.failures.say };
 }
 
 -- the host after a write, a cut or a sync, by whether it succeeded
 abbrev pub after_write : Bool → SystemHost → SystemHost
 after_write ok old = record old {
   moment = counted old.moment;
-  faults = if ok then old.faults else record old.faults { write = counted old.faults.write };
+  failures = if ok then old.failures else record old.failures { write = counted old.failures.write };
 }
 
 -- a host that tells nothing doesn't tell this

@@ -1,5 +1,5 @@
 ghost use Rattle.std.specs.Prelude.{◌≡◌, ◌≤◌, length, is_ok, Ok, IsErr, IfOk, IfSome, OnOk, OnErr, MatchResult};
-ghost use Rattle.host_model.specs.Faults.{NeverFell, Rose, counted};
+ghost use Rattle.host_model.specs.Failures.{NeverFell, Rose, counted};
 ghost use Rattle.host_model.specs.Files.{Reads, file_of};
 ghost use Rattle.host_model.specs.Disk.{Changes, Cut, Elapses, Follows, SaysSome, Settles, Stays, Torn, during};
 ghost use Rattle.host_file.specs.System.{untold, any_left, tells_nothing, new_host, after_read, after_say, after_write};
@@ -36,7 +36,7 @@ impl<'r, R: Files + Print> Model for FileHost<'r, R> {
       db_path = string_bytes host.db.path;
       images_path = string_bytes host.images.path;
       moment = host.clock;
-      faults = record { read = host.read_faults; write = host.write_faults; say = host.say_faults };
+      failures = record { read = host.read_faults; write = host.write_faults; say = host.say_faults };
     } };
 }
 
@@ -62,7 +62,7 @@ impl<'r, R: Files + Print> FileHost<'r, R> {
     /// Counts a write, a cut or a sync, and that it failed where it did.
     fn end_write(&mut self, outcome: io::Result<()>) -> Result<(), HostFailed>
         ensures counts { self.new ≡ after_write (is_ok result) self.old }
-        ensures faults { NeverFell self.old.faults self.new.faults }
+        ensures failures { NeverFell self.old.failures self.new.failures }
         ensures clock { self.old.moment ≤ self.new.moment }
     {
         self.clock = self.clock.saturating_add(1);
@@ -77,7 +77,7 @@ impl<'r, R: Files + Print> FileHost<'r, R> {
     fn end_read<T: Drop>(&mut self, outcome: io::Result<T>) -> Result<T, HostFailed>
         ensures outcome { MatchResult outcome (λ value. result ≡ Ok value) (λ _. IsErr result) }
         ensures counts { self.new ≡ after_read (is_ok result) self.old }
-        ensures faults { NeverFell self.old.faults self.new.faults }
+        ensures failures { NeverFell self.old.failures self.new.failures }
         ensures clock { self.old.moment ≤ self.new.moment }
     {
         self.clock = self.clock.saturating_add(1);
@@ -96,7 +96,7 @@ impl<'r, R: Files + Print> Host for FileHost<'r, R> {
 
     ghost moment = { λ host. host.moment };
 
-    ghost faults = { λ host. host.faults };
+    ghost failures = { λ host. host.failures };
 
     ghost left_since = { λ _. any_left };
 
@@ -111,8 +111,8 @@ impl<'r, R: Files + Print> Host for FileHost<'r, R> {
         ensures crash { Stays (any_left self.old.moment) (any_left self.new.moment) }
         ensures time { Elapses self.old.moment self.new.moment any_left any_left (any_left self.new.moment) }
         ensures clock { self.new.moment ≡ counted self.old.moment }
-        ensures faults { NeverFell self.old.faults self.new.faults }
-        ensures failed { OnErr result (Rose self.old.faults.read self.new.faults.read) }
+        ensures failures { NeverFell self.old.failures self.new.failures }
+        ensures failed { OnErr result (Rose self.old.failures.read self.new.failures.read) }
         ensures counts { self.new ≡ after_read (is_ok result) self.old }
     {
         let rt = self.rt;
@@ -129,8 +129,8 @@ impl<'r, R: Files + Print> Host for FileHost<'r, R> {
         ensures crash { Stays (any_left self.old.moment) (any_left self.new.moment) }
         ensures time { Elapses self.old.moment self.new.moment any_left any_left (any_left self.new.moment) }
         ensures clock { self.new.moment ≡ counted self.old.moment }
-        ensures faults { NeverFell self.old.faults self.new.faults }
-        ensures failed { OnErr result (Rose self.old.faults.read self.new.faults.read) }
+        ensures failures { NeverFell self.old.failures self.new.failures }
+        ensures failed { OnErr result (Rose self.old.failures.read self.new.failures.read) }
         ensures counts { self.new ≡ after_read (is_ok result) self.old }
     {
         let rt = self.rt;
@@ -145,8 +145,8 @@ impl<'r, R: Files + Print> Host for FileHost<'r, R> {
         ensures crash { Follows (Changes file (Torn at (length bytes.now))) (any_left self.old.moment) (any_left self.new.moment) }
         ensures time { Elapses self.old.moment self.new.moment any_left any_left (any_left self.new.moment) }
         ensures clock { self.new.moment ≡ counted self.old.moment }
-        ensures faults { NeverFell self.old.faults self.new.faults }
-        ensures failed { OnErr result (Rose self.old.faults.write self.new.faults.write) }
+        ensures failures { NeverFell self.old.failures self.new.failures }
+        ensures failed { OnErr result (Rose self.old.failures.write self.new.failures.write) }
         ensures counts { self.new ≡ after_write (is_ok result) self.old }
     {
         let rt = self.rt;
@@ -161,8 +161,8 @@ impl<'r, R: Files + Print> Host for FileHost<'r, R> {
         ensures crash { Follows (Changes file (Cut len)) (any_left self.old.moment) (any_left self.new.moment) }
         ensures time { Elapses self.old.moment self.new.moment any_left any_left (any_left self.new.moment) }
         ensures clock { self.new.moment ≡ counted self.old.moment }
-        ensures faults { NeverFell self.old.faults self.new.faults }
-        ensures failed { OnErr result (Rose self.old.faults.write self.new.faults.write) }
+        ensures failures { NeverFell self.old.failures self.new.failures }
+        ensures failed { OnErr result (Rose self.old.failures.write self.new.failures.write) }
         ensures counts { self.new ≡ after_write (is_ok result) self.old }
     {
         let rt = self.rt;
@@ -178,8 +178,8 @@ impl<'r, R: Files + Print> Host for FileHost<'r, R> {
         ensures crash { Stays (any_left self.old.moment) (any_left self.new.moment) }
         ensures time { Elapses self.old.moment self.new.moment any_left any_left (any_left self.new.moment) }
         ensures clock { self.new.moment ≡ counted self.old.moment }
-        ensures faults { NeverFell self.old.faults self.new.faults }
-        ensures failed { OnErr result (Rose self.old.faults.write self.new.faults.write) }
+        ensures failures { NeverFell self.old.failures self.new.failures }
+        ensures failed { OnErr result (Rose self.old.failures.write self.new.failures.write) }
         ensures counts { self.new ≡ after_write (is_ok result) self.old }
     {
         let rt = self.rt;
@@ -194,8 +194,8 @@ impl<'r, R: Files + Print> Host for FileHost<'r, R> {
         ensures crash { Follows (SaysSome bytes.now) (any_left self.old.moment) (any_left self.new.moment) }
         ensures time { Elapses self.old.moment self.new.moment any_left any_left (during (SaysSome bytes.now) (any_left self.old.moment)) }
         ensures clock { self.new.moment ≡ counted self.old.moment }
-        ensures faults { NeverFell self.old.faults self.new.faults }
-        ensures failed { OnErr result (Rose self.old.faults.say self.new.faults.say) }
+        ensures failures { NeverFell self.old.failures self.new.failures }
+        ensures failed { OnErr result (Rose self.old.failures.say self.new.failures.say) }
         ensures counts { self.new ≡ after_say (is_ok result) self.old }
     {
         self.clock = self.clock.saturating_add(1);

@@ -1,6 +1,6 @@
 ghost use Rattle.std.specs.Prelude.{◌≡◌, ◌<◌, ◌≤◌, length, is_ok, IfOk, OnErr, if◌then◌else◌};
-ghost use Rattle.host_model.specs.Faults.{Rose, counted};
-ghost use Rattle.host_model.specs.Told.{GoesOn};
+ghost use Rattle.host_model.specs.Failures.{Rose, counted};
+ghost use Rattle.host_model.specs.Told.{TellsOn};
 ghost use Rattle.host_model.specs.Files.{Gives};
 ghost use Rattle.host_file.specs.System.{untold_left};
 
@@ -12,7 +12,7 @@ use std::marker::{Model, PhantomData};
 #[derive(Drop)]
 pub struct StdinSource<'r, R: Input> {
     reader: R::Reader,
-    faults: u64,
+    failures: u64,
     runtime: PhantomData<&'r R>,
 }
 
@@ -21,7 +21,7 @@ impl<'r, R: Input> Model for StdinSource<'r, R> {
 
     ghost Value = { ℕ };
 
-    ghost view = { λ source. source.faults };
+    ghost view = { λ source. source.failures };
 }
 
 impl<'r, R: Input> StdinSource<'r, R> {
@@ -31,7 +31,7 @@ impl<'r, R: Input> StdinSource<'r, R> {
     {
         StdinSource {
             reader: rt.reader(),
-            faults: 0,
+            failures: 0,
             runtime: PhantomData,
         }
     }
@@ -40,21 +40,21 @@ impl<'r, R: Input> StdinSource<'r, R> {
 impl<'r, R: Input> Source for StdinSource<'r, R> {
     ghost left = { λ _. untold_left };
 
-    ghost faults = { λ source. source };
+    ghost failures = { λ source. source };
 
     fn take(&mut self, out: &mut [u8]) -> Result<usize, SourceFailed>
         requires { 0 < length out.old }
         ensures count { IfOk result (λ n. n ≤ length out.old) }
-        ensures given { IfOk result (λ n. GoesOn untold_left untold_left (Gives out.new n)) }
+        ensures given { IfOk result (λ n. TellsOn untold_left untold_left (Gives out.new n)) }
         ensures kept { OnErr result (untold_left ≡ untold_left) }
-        ensures faults { self.old ≤ self.new }
+        ensures failures { self.old ≤ self.new }
         ensures failed { OnErr result (Rose self.old self.new) }
         ensures counts { self.new ≡ (if is_ok result then self.old else counted self.old) }
     {
         match self.reader.read(out) {
             Ok(count) => Ok(count),
             Err(_) => {
-                self.faults = self.faults.saturating_add(1);
+                self.failures = self.failures.saturating_add(1);
                 Err(SourceFailed)
             }
         }

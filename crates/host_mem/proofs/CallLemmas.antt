@@ -3,7 +3,7 @@ use Rattle.std.proofs.Common.{◌≡◌, ◌⊎◌, ℕ, ◌+◌, ◌-◌, ◌^�
 use Rattle.std.proofs.lemmas.List.{append-nil}
 use Rattle.host_model.specs.declared.host.FileNo.{FileNo}
 use Rattle.host_model.specs.declared.host.FileNo.TheVariants.{Db, Images}
-use Rattle.host_model.specs.Faults.{Rose, counted}
+use Rattle.host_model.specs.Failures.{Rose, counted}
 use Rattle.host_model.specs.Files.{Contents, Says, file_of, saying}
 use Rattle.host_model.specs.Disk.{Changes, Cut, Cuts, Elapses, Follows, SaysSome, Settles, Stays, Torn, Writes, during, written}
 use Rattle.host_mem.specs.declared.call.Call.{Call}

@@ -4,7 +4,7 @@ use Rattle.std.specs.Option.{option_map}
 use Rattle.host_model.specs.declared.host.FileNo.{FileNo}
 use Rattle.host_model.specs.declared.host.FileNo.TheVariants.{Db, Images}
 use Rattle.host_model.specs.Files.{Contents}
-use Rattle.host_model.specs.Faults.{Faults, counted}
+use Rattle.host_model.specs.Failures.{Failures, counted}
 use Rattle.host_mem.specs.declared.call.Call.{Call}
 use Rattle.host_mem.specs.declared.call.Call.TheVariants.{Len, Read, Write as CallWrite, Cut as CallCut, Sync as CallSync, Say as CallSay}
 use Rattle.host_mem.specs.History.{LeftSince, NumberedTo, State, replayed, shown, start}
@@ -16,7 +16,7 @@ use Rattle.host_mem.specs.Step.{Step}
 pub record Memory : Type 0 where
   pub first : Contents
   pub log : Log
-  pub faults : Faults
+  pub failures : Failures
   pub reads : ℕ
 
 -- a memory host, with the numbers of the calls that are to fail, and after how many calls every one is to fail
@@ -30,7 +30,7 @@ abbrev pub memory_of : Contents → Memory
 memory_of first = record {
   first = first;
   log = new_log;
-  faults = record { read = 0; write = 0; say = 0 };
+  failures = record { read = 0; write = 0; say = 0 };
   reads = 0;
 }
 
@@ -56,13 +56,13 @@ abbrev pub left_since : Memory → ℕ → Contents → Type 0
 left_since memory t c = LeftSince memory.first memory.log.steps memory.log.moment t c
 
 -- the counts where such a call failed once more
-abbrev pub failed_by : Call → Faults → Faults
-failed_by (Len number file) faults = record faults { read = counted faults.read }
-failed_by (Read number file at len) faults = record faults { read = counted faults.read }
-failed_by (CallWrite number file at len) faults = record faults { write = counted faults.write }
-failed_by (CallCut number file len) faults = record faults { write = counted faults.write }
-failed_by (CallSync number file) faults = record faults { write = counted faults.write }
-failed_by (CallSay number len) faults = record faults { say = counted faults.say }
+abbrev pub failed_by : Call → Failures → Failures
+failed_by (Len number file) failures = record failures { read = counted failures.read }
+failed_by (Read number file at len) failures = record failures { read = counted failures.read }
+failed_by (CallWrite number file at len) failures = record failures { write = counted failures.write }
+failed_by (CallCut number file len) failures = record failures { write = counted failures.write }
+failed_by (CallSync number file) failures = record failures { write = counted failures.write }
+failed_by (CallSay number len) failures = record failures { say = counted failures.say }
 
 -- a call that only reads
 abbrev pub IsLook : Call → Type 0
@@ -87,7 +87,7 @@ reads_db (CallSay number len) = false
 pub record Called {T E : Type 0} (listed : Type 0) (call : Call) (step : Option Step) (result : Result T E) (old new : Memory) : Type 0 where
   pub first : new.first ≡ old.first
   pub log : Logged listed call step result old.log new.log
-  pub faults : new.faults ≡ (if is_ok result then old.faults else failed_by call old.faults)
+  pub failures : new.failures ≡ (if is_ok result then old.failures else failed_by call old.failures)
   pub reads : new.reads ≡ (if is_ok result && reads_db call then counted old.reads else old.reads)
 
 -- a step that a call makes only where it succeeds

@@ -1,14 +1,14 @@
 -- What a memory source has left, and what a take gives of it.
 use Rattle.std.specs.Prelude.{◌≡◌, ℕ, ◌+◌, min, ◌↔◌, List, ◌++◌, length, take, drop, Contains, Result, IsErr, MatchResult}
-use Rattle.host_model.specs.Faults.{counted}
+use Rattle.host_model.specs.Failures.{counted}
 
--- the bytes left, how many a take gives at most, the takes that are to fail, and the counts of takes and of faults
+-- the bytes left, how many a take gives at most, the takes that are to fail, and the counts of takes and of failures
 pub record Source : Type 0 where
   pub left : List ℕ
   pub piece : ℕ
   pub failing : List ℕ
   pub taken : ℕ
-  pub faults : ℕ
+  pub failures : ℕ
 
 -- one take more was made, which gave the next n bytes
 abbrev pub given : Source → ℕ → Source
@@ -16,7 +16,7 @@ given source n = record source { left = drop n source.left; taken = counted sour
 
 -- one take more was made, which failed
 abbrev pub refused : Source → Source
-refused source = record source { taken = counted source.taken; faults = counted source.faults }
+refused source = record source { taken = counted source.taken; failures = counted source.failures }
 
 -- as many bytes as a take gives into a buffer
 abbrev pub next_piece : Source → List ℕ → ℕ

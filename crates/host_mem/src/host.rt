@@ -1,6 +1,6 @@
 ghost use Rattle.std.specs.Prelude.{◌≡◌, ◌≤◌, ◌↔◌, [], length, Contains, None, Some, is_ok, IsTrue, IfOk, OnOk, OnErr};
 ghost use Rattle.host_model.specs.Disk.{Changes, Cut as CutAt, Cuts, Elapses, Follows, SaysSome, Settles, Stays, Torn, Writes, during};
-ghost use Rattle.host_model.specs.Faults.{NeverFell, Rose, counted};
+ghost use Rattle.host_model.specs.Failures.{NeverFell, Rose, counted};
 ghost use Rattle.host_model.specs.Files.{Reads, Says, file_of};
 ghost use Rattle.host_mem.specs.History.{crashed_state};
 ghost use Rattle.host_mem.specs.Laws.{LeftSince-longer, told_is_left, told_said_stays};
@@ -116,7 +116,7 @@ impl Host for MemHost {
 
     ghost moment = { λ host. host.memory.log.moment };
 
-    ghost faults = { λ host. host.memory.faults };
+    ghost failures = { λ host. host.memory.failures };
 
     ghost left_since = { λ host. left_since host.memory };
 
@@ -126,8 +126,8 @@ impl Host for MemHost {
         ensures crash { Stays (left_since self.old.memory self.old.memory.log.moment) (left_since self.new.memory self.new.memory.log.moment) }
         ensures time { Elapses self.old.memory.log.moment self.new.memory.log.moment (left_since self.old.memory) (left_since self.new.memory) (left_since self.new.memory self.new.memory.log.moment) }
         ensures clock { self.new.memory.log.moment ≡ counted self.old.memory.log.moment }
-        ensures faults { NeverFell self.old.memory.faults self.new.memory.faults }
-        ensures failed { OnErr result (Rose self.old.memory.faults.read self.new.memory.faults.read) }
+        ensures failures { NeverFell self.old.memory.failures self.new.memory.failures }
+        ensures failed { OnErr result (Rose self.old.memory.failures.read self.new.memory.failures.read) }
         ensures failing { self.new.failing ≡ self.old.failing }
         ensures fuse { self.new.fuse ≡ burnt self.old.fuse }
         ensures called { Called (IsToFail self.old) (Call.Len (counted self.old.memory.log.moment) file) None result self.old.memory self.new.memory }
@@ -143,8 +143,8 @@ impl Host for MemHost {
         ensures crash { Stays (left_since self.old.memory self.old.memory.log.moment) (left_since self.new.memory self.new.memory.log.moment) }
         ensures time { Elapses self.old.memory.log.moment self.new.memory.log.moment (left_since self.old.memory) (left_since self.new.memory) (left_since self.new.memory self.new.memory.log.moment) }
         ensures clock { self.new.memory.log.moment ≡ counted self.old.memory.log.moment }
-        ensures faults { NeverFell self.old.memory.faults self.new.memory.faults }
-        ensures failed { OnErr result (Rose self.old.memory.faults.read self.new.memory.faults.read) }
+        ensures failures { NeverFell self.old.memory.failures self.new.memory.failures }
+        ensures failed { OnErr result (Rose self.old.memory.failures.read self.new.memory.failures.read) }
         ensures failing { self.new.failing ≡ self.old.failing }
         ensures fuse { self.new.fuse ≡ burnt self.old.fuse }
         ensures filled { OnOk result (out.new ≡ filled (file_of (contents_of self.old.memory) file) at out.old) }
@@ -161,8 +161,8 @@ impl Host for MemHost {
         ensures crash { Follows (Changes file (Torn at (length bytes.now))) (left_since self.old.memory self.old.memory.log.moment) (left_since self.new.memory self.new.memory.log.moment) }
         ensures time { Elapses self.old.memory.log.moment self.new.memory.log.moment (left_since self.old.memory) (left_since self.new.memory) (left_since self.new.memory self.new.memory.log.moment) }
         ensures clock { self.new.memory.log.moment ≡ counted self.old.memory.log.moment }
-        ensures faults { NeverFell self.old.memory.faults self.new.memory.faults }
-        ensures failed { OnErr result (Rose self.old.memory.faults.write self.new.memory.faults.write) }
+        ensures failures { NeverFell self.old.memory.failures self.new.memory.failures }
+        ensures failed { OnErr result (Rose self.old.memory.failures.write self.new.memory.failures.write) }
         ensures failing { self.new.failing ≡ self.old.failing }
         ensures fuse { self.new.fuse ≡ burnt self.old.fuse }
         ensures called { Called (IsToFail self.old) (Call.Write (counted self.old.memory.log.moment) file at (length bytes.now)) (Some (Write (counted self.old.memory.log.moment) file at bytes.now (is_ok result))) result self.old.memory self.new.memory }
@@ -177,8 +177,8 @@ impl Host for MemHost {
         ensures crash { Follows (Changes file (CutAt len)) (left_since self.old.memory self.old.memory.log.moment) (left_since self.new.memory self.new.memory.log.moment) }
         ensures time { Elapses self.old.memory.log.moment self.new.memory.log.moment (left_since self.old.memory) (left_since self.new.memory) (left_since self.new.memory self.new.memory.log.moment) }
         ensures clock { self.new.memory.log.moment ≡ counted self.old.memory.log.moment }
-        ensures faults { NeverFell self.old.memory.faults self.new.memory.faults }
-        ensures failed { OnErr result (Rose self.old.memory.faults.write self.new.memory.faults.write) }
+        ensures failures { NeverFell self.old.memory.failures self.new.memory.failures }
+        ensures failed { OnErr result (Rose self.old.memory.failures.write self.new.memory.failures.write) }
         ensures failing { self.new.failing ≡ self.old.failing }
         ensures fuse { self.new.fuse ≡ burnt self.old.fuse }
         ensures called { Called (IsToFail self.old) (Call.Cut (counted self.old.memory.log.moment) file len) (Some (Cut (counted self.old.memory.log.moment) file len (is_ok result))) result self.old.memory self.new.memory }
@@ -193,8 +193,8 @@ impl Host for MemHost {
         ensures crash { Stays (left_since self.old.memory self.old.memory.log.moment) (left_since self.new.memory self.new.memory.log.moment) }
         ensures time { Elapses self.old.memory.log.moment self.new.memory.log.moment (left_since self.old.memory) (left_since self.new.memory) (left_since self.new.memory self.new.memory.log.moment) }
         ensures clock { self.new.memory.log.moment ≡ counted self.old.memory.log.moment }
-        ensures faults { NeverFell self.old.memory.faults self.new.memory.faults }
-        ensures failed { OnErr result (Rose self.old.memory.faults.write self.new.memory.faults.write) }
+        ensures failures { NeverFell self.old.memory.failures self.new.memory.failures }
+        ensures failed { OnErr result (Rose self.old.memory.failures.write self.new.memory.failures.write) }
         ensures failing { self.new.failing ≡ self.old.failing }
         ensures fuse { self.new.fuse ≡ burnt self.old.fuse }
         ensures called { Called (IsToFail self.old) (Call.Sync (counted self.old.memory.log.moment) file) (only_done result (Sync (counted self.old.memory.log.moment) file)) result self.old.memory self.new.memory }
@@ -208,8 +208,8 @@ impl Host for MemHost {
         ensures crash { Follows (SaysSome bytes.now) (left_since self.old.memory self.old.memory.log.moment) (left_since self.new.memory self.new.memory.log.moment) }
         ensures time { Elapses self.old.memory.log.moment self.new.memory.log.moment (left_since self.old.memory) (left_since self.new.memory) (during (SaysSome bytes.now) (left_since self.old.memory self.old.memory.log.moment)) }
         ensures clock { self.new.memory.log.moment ≡ counted self.old.memory.log.moment }
-        ensures faults { NeverFell self.old.memory.faults self.new.memory.faults }
-        ensures failed { OnErr result (Rose self.old.memory.faults.say self.new.memory.faults.say) }
+        ensures failures { NeverFell self.old.memory.failures self.new.memory.failures }
+        ensures failed { OnErr result (Rose self.old.memory.failures.say self.new.memory.failures.say) }
         ensures failing { self.new.failing ≡ self.old.failing }
         ensures fuse { self.new.fuse ≡ burnt self.old.fuse }
         ensures called { Called (IsToFail self.old) (Call.Say (counted self.old.memory.log.moment) (length bytes.now)) (only_done result (Say (counted self.old.memory.log.moment) bytes.now)) result self.old.memory self.new.memory }

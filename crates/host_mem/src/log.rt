@@ -1,5 +1,5 @@
 ghost use Rattle.std.specs.Prelude.{◌≡◌, ◌≤◌, None, Some, OnOk, OnErr};
-ghost use Rattle.host_model.specs.Faults.{Rose, counted};
+ghost use Rattle.host_model.specs.Failures.{Rose, counted};
 
 use super::call::Call;
 use super::step::Entry;

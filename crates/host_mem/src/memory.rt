@@ -1,6 +1,6 @@
 ghost use Rattle.std.specs.Prelude.{◌≡◌, ◌-◌, ◌≤◌, min, length, None, Some, is_ok, IsTrue, IfOk, OnOk, OnErr};
 ghost use Rattle.host_model.specs.Disk.{Changes, Cut as CutAt, Cuts, Elapses, Follows, SaysSome, Settles, Stays, Torn, Writes, during};
-ghost use Rattle.host_model.specs.Faults.{NeverFell, counted};
+ghost use Rattle.host_model.specs.Failures.{NeverFell, counted};
 ghost use Rattle.host_model.specs.Files.{Says, file_of};
 
 use super::call::Call;
@@ -74,7 +74,7 @@ impl Memory {
         ensures told { contents_of self.new ≡ contents_of self.old }
         ensures crash { Stays (left_since self.old self.old.log.moment) (left_since self.new self.new.log.moment) }
         ensures time { Elapses self.old.log.moment self.new.log.moment (left_since self.old) (left_since self.new) (left_since self.new self.new.log.moment) }
-        ensures faults { NeverFell self.old.faults self.new.faults }
+        ensures failures { NeverFell self.old.failures self.new.failures }
         ensures called { Called (IsTrue listed) (Call.Len (counted self.old.log.moment) file) None result self.old self.new }
     {
         self.parts.len(file, listed)
@@ -93,7 +93,7 @@ impl Memory {
         ensures told { contents_of self.new ≡ contents_of self.old }
         ensures crash { Stays (left_since self.old self.old.log.moment) (left_since self.new self.new.log.moment) }
         ensures time { Elapses self.old.log.moment self.new.log.moment (left_since self.old) (left_since self.new) (left_since self.new self.new.log.moment) }
-        ensures faults { NeverFell self.old.faults self.new.faults }
+        ensures failures { NeverFell self.old.failures self.new.failures }
         ensures called { Called (IsTrue listed) (Call.Read (counted self.old.log.moment) file at (length out.old)) None result self.old self.new }
     {
         self.parts.read(file, at, out, listed)
@@ -111,7 +111,7 @@ impl Memory {
         ensures exactly { OnErr result (contents_of self.new ≡ contents_of self.old) }
         ensures crash { Follows (Changes file (Torn at (length bytes.now))) (left_since self.old self.old.log.moment) (left_since self.new self.new.log.moment) }
         ensures time { Elapses self.old.log.moment self.new.log.moment (left_since self.old) (left_since self.new) (left_since self.new self.new.log.moment) }
-        ensures faults { NeverFell self.old.faults self.new.faults }
+        ensures failures { NeverFell self.old.failures self.new.failures }
         ensures called { Called (IsTrue listed) (Call.Write (counted self.old.log.moment) file at (length bytes.now))
             (Some (Write (counted self.old.log.moment) file at bytes.now (is_ok result))) result self.old self.new }
     {
@@ -124,7 +124,7 @@ impl Memory {
         ensures exactly { OnErr result (contents_of self.new ≡ contents_of self.old) }
         ensures crash { Follows (Changes file (CutAt len)) (left_since self.old self.old.log.moment) (left_since self.new self.new.log.moment) }
         ensures time { Elapses self.old.log.moment self.new.log.moment (left_since self.old) (left_since self.new) (left_since self.new self.new.log.moment) }
-        ensures faults { NeverFell self.old.faults self.new.faults }
+        ensures failures { NeverFell self.old.failures self.new.failures }
         ensures called { Called (IsTrue listed) (Call.Cut (counted self.old.log.moment) file len)
             (Some (Cut (counted self.old.log.moment) file len (is_ok result))) result self.old self.new }
     {
@@ -136,7 +136,7 @@ impl Memory {
         ensures told { contents_of self.new ≡ contents_of self.old }
         ensures crash { Stays (left_since self.old self.old.log.moment) (left_since self.new self.new.log.moment) }
         ensures time { Elapses self.old.log.moment self.new.log.moment (left_since self.old) (left_since self.new) (left_since self.new self.new.log.moment) }
-        ensures faults { NeverFell self.old.faults self.new.faults }
+        ensures failures { NeverFell self.old.failures self.new.failures }
         ensures called { Called (IsTrue listed) (Call.Sync (counted self.old.log.moment) file)
             (only_done result (Sync (counted self.old.log.moment) file)) result self.old self.new }
     {
@@ -149,7 +149,7 @@ impl Memory {
         ensures crash { Follows (SaysSome bytes.now) (left_since self.old self.old.log.moment) (left_since self.new self.new.log.moment) }
         ensures time { Elapses self.old.log.moment self.new.log.moment (left_since self.old) (left_since self.new)
             (during (SaysSome bytes.now) (left_since self.old self.old.log.moment)) }
-        ensures faults { NeverFell self.old.faults self.new.faults }
+        ensures failures { NeverFell self.old.failures self.new.failures }
         ensures called { Called (IsTrue listed) (Call.Say (counted self.old.log.moment) (length bytes.now))
             (only_done result (Say (counted self.old.log.moment) bytes.now)) result self.old self.new }
     {

@@ -1,5 +1,5 @@
 ghost use Rattle.std.specs.Prelude.{◌≡◌, ◌-◌, ◌≤◌, ◌++◌, min, length, take, drop, None, Some, is_ok, if◌then◌else◌, IsTrue, IfOk, OnOk, OnErr};
-ghost use Rattle.host_model.specs.Faults.{NeverFell, counted};
+ghost use Rattle.host_model.specs.Failures.{NeverFell, counted};
 ghost use Rattle.host_model.specs.Files.{file_of, saying};
 ghost use Rattle.host_model.specs.Disk.{written};
 ghost use Rattle.host_mem.specs.History.{start};
@@ -35,7 +35,7 @@ impl Parts {
     pub(crate) fn len(&mut self, file: FileNo, listed: bool) -> Result<u64, HostFailed>
         ensures length { IfOk result (λ n. n ≡ length (file_of (held self.old) file)) }
         ensures held { held self.new ≡ held self.old }
-        ensures faults { NeverFell (seen self.old).faults (seen self.new).faults }
+        ensures failures { NeverFell (seen self.old).failures (seen self.new).failures }
         ensures called { Called (IsTrue listed) (Call.Len (counted self.old.log.moment) file) None result (seen self.old) (seen self.new) }
     {
         let number = self.log.next();
@@ -54,7 +54,7 @@ impl Parts {
         ensures bytes { OnOk result (out.new ≡ filled (file_of (held self.old) file) at out.old) }
         ensures unread { OnErr result (out.new ≡ out.old) }
         ensures held { held self.new ≡ held self.old }
-        ensures faults { NeverFell (seen self.old).faults (seen self.new).faults }
+        ensures failures { NeverFell (seen self.old).failures (seen self.new).failures }
         ensures called { Called (IsTrue listed) (Call.Read (counted self.old.log.moment) file at (length out.old)) None result (seen self.old) (seen self.new) }
     {
         let number = self.log.next();
@@ -81,7 +81,7 @@ impl Parts {
     ) -> Result<(), HostFailed>
         requires { at ≤ length (file_of (held self.old) file) }
         ensures held { held self.new ≡ (if is_ok result then with_file file (written at bytes.now (file_of (held self.old) file)) (held self.old) else held self.old) }
-        ensures faults { NeverFell (seen self.old).faults (seen self.new).faults }
+        ensures failures { NeverFell (seen self.old).failures (seen self.new).failures }
         ensures called { Called (IsTrue listed) (Call.Write (counted self.old.log.moment) file at (length bytes.now))
             (Some (Write (counted self.old.log.moment) file at bytes.now (is_ok result))) result (seen self.old) (seen self.new) }
     {
@@ -114,7 +114,7 @@ impl Parts {
     pub(crate) fn cut(&mut self, file: FileNo, len: u64, listed: bool) -> Result<(), HostFailed>
         requires { len ≤ length (file_of (held self.old) file) }
         ensures held { held self.new ≡ (if is_ok result then with_file file (take len (file_of (held self.old) file)) (held self.old) else held self.old) }
-        ensures faults { NeverFell (seen self.old).faults (seen self.new).faults }
+        ensures failures { NeverFell (seen self.old).failures (seen self.new).failures }
         ensures called { Called (IsTrue listed) (Call.Cut (counted self.old.log.moment) file len)
             (Some (Cut (counted self.old.log.moment) file len (is_ok result))) result (seen self.old) (seen self.new) }
     {
@@ -137,7 +137,7 @@ impl Parts {
 
     pub(crate) fn sync(&mut self, file: FileNo, listed: bool) -> Result<(), HostFailed>
         ensures held { held self.new ≡ held self.old }
-        ensures faults { NeverFell (seen self.old).faults (seen self.new).faults }
+        ensures failures { NeverFell (seen self.old).failures (seen self.new).failures }
         ensures called { Called (IsTrue listed) (Call.Sync (counted self.old.log.moment) file)
             (only_done result (Sync (counted self.old.log.moment) file)) result (seen self.old) (seen self.new) }
     {
@@ -150,7 +150,7 @@ impl Parts {
 
     pub(crate) fn say(&mut self, bytes: &[u8], listed: bool) -> Result<(), HostFailed>
         ensures held { held self.new ≡ (if is_ok result then saying (held self.old) bytes.now else held self.old) }
-        ensures faults { NeverFell (seen self.old).faults (seen self.new).faults }
+        ensures failures { NeverFell (seen self.old).failures (seen self.new).failures }
         ensures called { Called (IsTrue listed) (Call.Say (counted self.old.log.moment) (length bytes.now))
             (only_done result (Say (counted self.old.log.moment) bytes.now)) result (seen self.old) (seen self.new) }
     {
@@ -165,11 +165,11 @@ impl Parts {
     fn look(&mut self, call: Call, listed: bool) -> Result<(), HostFailed>
         requires { IsLook call }
         ensures held { held self.new ≡ held self.old }
-        ensures faults { NeverFell (seen self.old).faults (seen self.new).faults }
+        ensures failures { NeverFell (seen self.old).failures (seen self.new).failures }
         ensures reads { self.new.reads ≡ self.old.reads }
         ensures first { (seen self.new).first ≡ (seen self.old).first }
         ensures log { Logged (IsTrue listed) call None result self.old.log self.new.log }
-        ensures counts { (seen self.new).faults ≡ (if is_ok result then (seen self.old).faults else failed_by call (seen self.old).faults) }
+        ensures counts { (seen self.new).failures ≡ (if is_ok result then (seen self.old).failures else failed_by call (seen self.old).failures) }
     {
         if self.log.admit(call).is_err() || listed {
             self.read_faults = self.read_faults.saturating_add(1);

@@ -1,5 +1,5 @@
 ghost use Rattle.std.specs.Prelude.{◌≡◌, ◌+◌, ◌<◌, ◌≤◌, ◌↔◌, ◌++◌, length, take, drop, Contains, IsTrue, IfOk, OnErr};
-ghost use Rattle.host_model.specs.Faults.{Rose};
+ghost use Rattle.host_model.specs.Failures.{Rose};
 ghost use Rattle.host_model.specs.Files.{Gives};
 
 use super::parts::copy_front;
@@ -14,7 +14,7 @@ pub struct MemSource {
     piece: usize,
     failing: Vec<u64>,
     taken: u64,
-    faults: u64,
+    failures: u64,
 }
 
 impl Model for MemSource {
@@ -28,7 +28,7 @@ impl Model for MemSource {
       piece = source.piece;
       failing = source.failing.items;
       taken = source.taken;
-      faults = source.faults;
+      failures = source.failures;
     } };
 
     ghost invariant = { λ source. (0 < source.piece) × (source.start ≤ length source.bytes.items) };
@@ -41,7 +41,7 @@ impl MemSource {
     /// The takes with the numbers `failing` will fail, counted from 1 for the first.
     pub fn new(bytes: Vec<u8>, piece: usize, failing: Vec<u64>) -> MemSource
         requires { 0 < piece }
-        ensures { result ≡ record { left = bytes.items; piece = piece; failing = failing.items; taken = 0; faults = 0 } }
+        ensures { result ≡ record { left = bytes.items; piece = piece; failing = failing.items; taken = 0; failures = 0 } }
     {
         MemSource {
             bytes,
@@ -49,7 +49,7 @@ impl MemSource {
             piece,
             failing,
             taken: 0,
-            faults: 0,
+            failures: 0,
         }
     }
 
@@ -73,21 +73,21 @@ impl Source for MemSource {
 
     ghost left = { λ source. Some source.left };
 
-    ghost faults = { λ source. source.faults };
+    ghost failures = { λ source. source.failures };
 
     fn take(&mut self, out: &mut [u8]) -> Result<usize, SourceFailed>
         requires { 0 < length out.old }
         ensures count { IfOk result (λ n. n ≤ length out.old) }
         ensures given { IfOk result (λ n. Gives out.new n self.old.left self.new.left) }
         ensures kept { OnErr result (Some self.new.left ≡ Some self.old.left) }
-        ensures faults { self.old.faults ≤ self.new.faults }
-        ensures failed { OnErr result (Rose self.old.faults self.new.faults) }
+        ensures failures { self.old.failures ≤ self.new.failures }
+        ensures failed { OnErr result (Rose self.old.failures self.new.failures) }
         ensures taken { Taken result out.old out.new self.old self.new }
     {
         let listed = has_next(&self.failing, self.taken);
         self.taken = self.taken.saturating_add(1);
         if listed {
-            self.faults = self.faults.saturating_add(1);
+            self.failures = self.failures.saturating_add(1);
             return Err(SourceFailed);
         }
         Ok(self.give(out))

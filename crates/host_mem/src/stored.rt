@@ -1,6 +1,6 @@
 ghost use Rattle.std.specs.Prelude.{◌≡◌, ◌+◌, ◌≤◌, ◌++◌, length, take, Some, is_ok, if◌then◌else◌, IsSome, IsTrue, IfOk, vec_len};
 ghost use Rattle.std.specs.Vec.{vec_capacity};
-ghost use Rattle.host_model.specs.Faults.{counted};
+ghost use Rattle.host_model.specs.Failures.{counted};
 ghost use Rattle.host_model.specs.Disk.{written};
 ghost use Rattle.host_mem.specs.Log.{Logged};
 ghost use Rattle.host_mem.specs.Memory.{only_done};

@@ -1,6 +1,6 @@
 ghost use Rattle.std.specs.Prelude.{◌≡◌, ◌≤◌, ◌↔◌, length, Contains, None, Some, is_ok, IsTrue, IfOk, OnOk, OnErr};
 ghost use Rattle.host_model.specs.Disk.{Changes, Cut as CutAt, Cuts, Elapses, Follows, SaysSome, Settles, Stays, Torn, Writes, during};
-ghost use Rattle.host_model.specs.Faults.{NeverFell, Rose, counted};
+ghost use Rattle.host_model.specs.Failures.{NeverFell, Rose, counted};
 ghost use Rattle.host_model.specs.Files.{Reads, Says, file_of};
 ghost use Rattle.host_mem.specs.Laws.{LeftSince-longer, told_is_left, told_said_stays};
 ghost use Rattle.host_mem.specs.Memory.{Called, contents_of, filled, left_since, new_memory, only_done};
@@ -72,7 +72,7 @@ impl Host for SureHost {
 
     ghost moment = { λ host. host.log.moment };
 
-    ghost faults = { λ host. host.faults };
+    ghost failures = { λ host. host.failures };
 
     ghost left_since = { λ host. left_since host };
 
@@ -82,8 +82,8 @@ impl Host for SureHost {
         ensures crash { Stays (left_since self.old self.old.log.moment) (left_since self.new self.new.log.moment) }
         ensures time { Elapses self.old.log.moment self.new.log.moment (left_since self.old) (left_since self.new) (left_since self.new self.new.log.moment) }
         ensures clock { self.new.log.moment ≡ counted self.old.log.moment }
-        ensures faults { NeverFell self.old.faults self.new.faults }
-        ensures failed { OnErr result (Rose self.old.faults.read self.new.faults.read) }
+        ensures failures { NeverFell self.old.failures self.new.failures }
+        ensures failed { OnErr result (Rose self.old.failures.read self.new.failures.read) }
         ensures called { Called (⊥) (Call.Len (counted self.old.log.moment) file) None result self.old self.new }
     {
         self.memory.len(file, false)
@@ -96,8 +96,8 @@ impl Host for SureHost {
         ensures crash { Stays (left_since self.old self.old.log.moment) (left_since self.new self.new.log.moment) }
         ensures time { Elapses self.old.log.moment self.new.log.moment (left_since self.old) (left_since self.new) (left_since self.new self.new.log.moment) }
         ensures clock { self.new.log.moment ≡ counted self.old.log.moment }
-        ensures faults { NeverFell self.old.faults self.new.faults }
-        ensures failed { OnErr result (Rose self.old.faults.read self.new.faults.read) }
+        ensures failures { NeverFell self.old.failures self.new.failures }
+        ensures failed { OnErr result (Rose self.old.failures.read self.new.failures.read) }
         ensures filled { OnOk result (out.new ≡ filled (file_of (contents_of self.old) file) at out.old) }
         ensures unread { OnErr result (out.new ≡ out.old) }
         ensures called { Called (⊥) (Call.Read (counted self.old.log.moment) file at (length out.old)) None result self.old self.new }
@@ -111,8 +111,8 @@ impl Host for SureHost {
         ensures crash { Follows (Changes file (Torn at (length bytes.now))) (left_since self.old self.old.log.moment) (left_since self.new self.new.log.moment) }
         ensures time { Elapses self.old.log.moment self.new.log.moment (left_since self.old) (left_since self.new) (left_since self.new self.new.log.moment) }
         ensures clock { self.new.log.moment ≡ counted self.old.log.moment }
-        ensures faults { NeverFell self.old.faults self.new.faults }
-        ensures failed { OnErr result (Rose self.old.faults.write self.new.faults.write) }
+        ensures failures { NeverFell self.old.failures self.new.failures }
+        ensures failed { OnErr result (Rose self.old.failures.write self.new.failures.write) }
         ensures called { Called (⊥) (Call.Write (counted self.old.log.moment) file at (length bytes.now)) (Some (Write (counted self.old.log.moment) file at bytes.now (is_ok result))) result self.old self.new }
     {
         self.memory.write_at(file, at, bytes, false)
@@ -124,8 +124,8 @@ impl Host for SureHost {
         ensures crash { Follows (Changes file (CutAt len)) (left_since self.old self.old.log.moment) (left_since self.new self.new.log.moment) }
         ensures time { Elapses self.old.log.moment self.new.log.moment (left_since self.old) (left_since self.new) (left_since self.new self.new.log.moment) }
         ensures clock { self.new.log.moment ≡ counted self.old.log.moment }
-        ensures faults { NeverFell self.old.faults self.new.faults }
-        ensures failed { OnErr result (Rose self.old.faults.write self.new.faults.write) }
+        ensures failures { NeverFell self.old.failures self.new.failures }
+        ensures failed { OnErr result (Rose self.old.failures.write self.new.failures.write) }
         ensures called { Called (⊥) (Call.Cut (counted self.old.log.moment) file len) (Some (Cut (counted self.old.log.moment) file len (is_ok result))) result self.old self.new }
     {
         self.memory.cut(file, len, false)
@@ -137,8 +137,8 @@ impl Host for SureHost {
         ensures crash { Stays (left_since self.old self.old.log.moment) (left_since self.new self.new.log.moment) }
         ensures time { Elapses self.old.log.moment self.new.log.moment (left_since self.old) (left_since self.new) (left_since self.new self.new.log.moment) }
         ensures clock { self.new.log.moment ≡ counted self.old.log.moment }
-        ensures faults { NeverFell self.old.faults self.new.faults }
-        ensures failed { OnErr result (Rose self.old.faults.write self.new.faults.write) }
+        ensures failures { NeverFell self.old.failures self.new.failures }
+        ensures failed { OnErr result (Rose self.old.failures.write self.new.failures.write) }
         ensures called { Called (⊥) (Call.Sync (counted self.old.log.moment) file) (only_done result (Sync (counted self.old.log.moment) file)) result self.old self.new }
     {
         self.memory.sync(file, false)
@@ -149,8 +149,8 @@ impl Host for SureHost {
         ensures crash { Follows (SaysSome bytes.now) (left_since self.old self.old.log.moment) (left_since self.new self.new.log.moment) }
         ensures time { Elapses self.old.log.moment self.new.log.moment (left_since self.old) (left_since self.new) (during (SaysSome bytes.now) (left_since self.old self.old.log.moment)) }
         ensures clock { self.new.log.moment ≡ counted self.old.log.moment }
-        ensures faults { NeverFell self.old.faults self.new.faults }
-        ensures failed { OnErr result (Rose self.old.faults.say self.new.faults.say) }
+        ensures failures { NeverFell self.old.failures self.new.failures }
+        ensures failed { OnErr result (Rose self.old.failures.say self.new.failures.say) }
         ensures called { Called (⊥) (Call.Say (counted self.old.log.moment) (length bytes.now)) (only_done result (Say (counted self.old.log.moment) bytes.now)) result self.old self.new }
     {
         self.memory.say(bytes, false)

@@ -1,2 +1,2 @@
-pub mod FaultLemmas
+pub mod FailureLemmas
 pub mod MomentLemmas

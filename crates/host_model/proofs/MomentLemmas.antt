@@ -5,7 +5,7 @@ use Rattle.host_model.specs.declared.host.FileNo.TheVariants.{Db}
 use Rattle.host_model.specs.Files.{Contents}
 use Rattle.host_model.specs.Disk.{Changes, Elapses, Follows, SaysSome, Settles, Stays, Torn, during, written}
 use Rattle.host_model.specs.Moments.{IsBeingStored, IsBeingTold, IsStoredThenTold, LeavesOnly}
-use Rattle.host_model.specs.Told.{GoesOn}
+use Rattle.host_model.specs.Told.{TellsOn}
 
 module _ {H : Type 0} (moment : H → ℕ) (left_since : H → ℕ → Contents → Type 0) where
   -- one call: what it may leave has P, and so has what a crash before it leaves

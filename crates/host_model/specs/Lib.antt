@@ -1,4 +1,4 @@
-pub mod Faults
+pub mod Failures
 pub mod Told
 pub mod Files
 pub mod Disk

@@ -2,6 +2,6 @@
 use Rattle.std.specs.Prelude.{Option, None, Some, IsSomeAnd}
 
 -- What told before tells now too, and the two stand in this relation. Of what didn't tell nothing is said.
-abbrev pub GoesOn : {A : Type 0} → Option A → Option A → (A → A → Type 0) → Type 0
-GoesOn None now R = Unit {0}
-GoesOn (Some before) now R = IsSomeAnd now (R before)
+abbrev pub TellsOn : {A : Type 0} → Option A → Option A → (A → A → Type 0) → Type 0
+TellsOn None now R = Unit {0}
+TellsOn (Some before) now R = IsSomeAnd now (R before)

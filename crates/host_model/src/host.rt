@@ -1,7 +1,7 @@
 ghost use Rattle.std.specs.Prelude.{◌≡◌, ◌≤◌, ℕ, Option, None, Some, length, IfOk, OnOk, OnErr, IfSome};
 ghost use Rattle.std.specs.Option.{ForSome};
-ghost use Rattle.host_model.specs.Faults.{Faults, NeverFell, Rose, counted};
-ghost use Rattle.host_model.specs.Told.{GoesOn};
+ghost use Rattle.host_model.specs.Failures.{Failures, NeverFell, Rose, counted};
+ghost use Rattle.host_model.specs.Told.{TellsOn};
 ghost use Rattle.host_model.specs.Files.{Contents, Reads, Says, file_of};
 ghost use Rattle.host_model.specs.Disk.{Changes, Cut, Cuts, Elapses, Follows, SaysSome, Settles, Stays, Torn, Writes, during};
 
@@ -16,7 +16,7 @@ pub enum FileNo {
     Images,
 }
 
-/// A call of the device failed. Which count of faults rose tells of what kind it was.
+/// A call of the device failed. Which count of failures rose tells of what kind it was.
 #[derive(Clone, Copy, Debug, PartialEq, Eq, Error)]
 #[error("the device failed")]
 pub struct HostFailed;
@@ -37,7 +37,7 @@ pub trait Host: Drop {
     ghost moment: { Self → ℕ };
 
     /// How often calls have failed, by their kind.
-    ghost faults: { Self → Faults };
+    ghost failures: { Self → Failures };
 
     /// What a crash at that moment or at one since might have left.
     ghost left_since: { Self → ℕ → Contents → Type 0 };
@@ -49,8 +49,8 @@ pub trait Host: Drop {
         ensures crash { Stays (left_since self.old (moment self.old)) (left_since self.new (moment self.new)) }
         ensures time { Elapses (moment self.old) (moment self.new) (left_since self.old) (left_since self.new) (left_since self.new (moment self.new)) }
         ensures clock { moment self.new ≡ counted (moment self.old) }
-        ensures faults { NeverFell (faults self.old) (faults self.new) }
-        ensures failed { OnErr result (Rose (faults self.old).read (faults self.new).read) };
+        ensures failures { NeverFell (failures self.old) (failures self.new) }
+        ensures failed { OnErr result (Rose (failures self.old).read (failures self.new).read) };
 
     /// Reads into the front of `out` what the file has from `at` on, and answers how many bytes that
     /// were: fewer than `out` takes only where the file ends, and 0 at its end or past it.
@@ -61,32 +61,32 @@ pub trait Host: Drop {
         ensures crash { Stays (left_since self.old (moment self.old)) (left_since self.new (moment self.new)) }
         ensures time { Elapses (moment self.old) (moment self.new) (left_since self.old) (left_since self.new) (left_since self.new (moment self.new)) }
         ensures clock { moment self.new ≡ counted (moment self.old) }
-        ensures faults { NeverFell (faults self.old) (faults self.new) }
-        ensures failed { OnErr result (Rose (faults self.old).read (faults self.new).read) };
+        ensures failures { NeverFell (failures self.old) (failures self.new) }
+        ensures failed { OnErr result (Rose (failures self.old).read (failures self.new).read) };
 
     /// Writes over what the file has from `at` on, and past its end. Until a sync that succeeds, a crash may leave
     /// any bytes in that range. Where the call fails, they may be any now too.
     fn write_at(&mut self, file: FileNo, at: u64, bytes: &[u8]) -> Result<(), HostFailed>
         requires { ForSome (told self.old) (λ c. at ≤ length (file_of c file)) }
-        ensures told { GoesOn (told self.old) (told self.new) (Changes file (Writes at bytes.now result)) }
+        ensures told { TellsOn (told self.old) (told self.new) (Changes file (Writes at bytes.now result)) }
         ensures untold { told self.old ≡ None → told self.new ≡ None }
         ensures crash { Follows (Changes file (Torn at (length bytes.now))) (left_since self.old (moment self.old)) (left_since self.new (moment self.new)) }
         ensures time { Elapses (moment self.old) (moment self.new) (left_since self.old) (left_since self.new) (left_since self.new (moment self.new)) }
         ensures clock { moment self.new ≡ counted (moment self.old) }
-        ensures faults { NeverFell (faults self.old) (faults self.new) }
-        ensures failed { OnErr result (Rose (faults self.old).write (faults self.new).write) };
+        ensures failures { NeverFell (failures self.old) (failures self.new) }
+        ensures failed { OnErr result (Rose (failures self.old).write (failures self.new).write) };
 
     /// Cuts the file to its first `len` bytes. Until a sync that succeeds, a crash may leave it longer, with any bytes
     /// from there on.
     fn cut(&mut self, file: FileNo, len: u64) -> Result<(), HostFailed>
         requires { ForSome (told self.old) (λ c. len ≤ length (file_of c file)) }
-        ensures told { GoesOn (told self.old) (told self.new) (Changes file (Cuts len result)) }
+        ensures told { TellsOn (told self.old) (told self.new) (Changes file (Cuts len result)) }
         ensures untold { told self.old ≡ None → told self.new ≡ None }
         ensures crash { Follows (Changes file (Cut len)) (left_since self.old (moment self.old)) (left_since self.new (moment self.new)) }
         ensures time { Elapses (moment self.old) (moment self.new) (left_since self.old) (left_since self.new) (left_since self.new (moment self.new)) }
         ensures clock { moment self.new ≡ counted (moment self.old) }
-        ensures faults { NeverFell (faults self.old) (faults self.new) }
-        ensures failed { OnErr result (Rose (faults self.old).write (faults self.new).write) };
+        ensures failures { NeverFell (failures self.old) (failures self.new) }
+        ensures failed { OnErr result (Rose (failures self.old).write (failures self.new).write) };
 
     /// After it a crash leaves of this file what a read gives. Where it fails nothing is known to be stable.
     fn sync(&mut self, file: FileNo) -> Result<(), HostFailed>
@@ -96,19 +96,19 @@ pub trait Host: Drop {
         ensures crash { Stays (left_since self.old (moment self.old)) (left_since self.new (moment self.new)) }
         ensures time { Elapses (moment self.old) (moment self.new) (left_since self.old) (left_since self.new) (left_since self.new (moment self.new)) }
         ensures clock { moment self.new ≡ counted (moment self.old) }
-        ensures faults { NeverFell (faults self.old) (faults self.new) }
-        ensures failed { OnErr result (Rose (faults self.old).write (faults self.new).write) };
+        ensures failures { NeverFell (failures self.old) (failures self.new) }
+        ensures failed { OnErr result (Rose (failures self.old).write (failures self.new).write) };
 
     /// Says the bytes, or where it fails some of the first.
     fn say(&mut self, bytes: &[u8]) -> Result<(), HostFailed>
-        ensures said { GoesOn (told self.old) (told self.new) (Says bytes.now result) }
+        ensures said { TellsOn (told self.old) (told self.new) (Says bytes.now result) }
         ensures untold { told self.old ≡ None → told self.new ≡ None }
         ensures crash { Follows (SaysSome bytes.now) (left_since self.old (moment self.old)) (left_since self.new (moment self.new)) }
         ensures time { Elapses (moment self.old) (moment self.new) (left_since self.old) (left_since self.new)
             (during (SaysSome bytes.now) (left_since self.old (moment self.old))) }
         ensures clock { moment self.new ≡ counted (moment self.old) }
-        ensures faults { NeverFell (faults self.old) (faults self.new) }
-        ensures failed { OnErr result (Rose (faults self.old).say (faults self.new).say) };
+        ensures failures { NeverFell (failures self.old) (failures self.new) }
+        ensures failed { OnErr result (Rose (failures self.old).say (failures self.new).say) };
 
     /// The moments since a later one are among those since an earlier.
     ghost longer: { (host : Self) (t u : ℕ) (c : Contents) → t ≤ u → left_since host u c → left_since host t c };

@@ -1,6 +1,6 @@
 ghost use Rattle.std.specs.Prelude.{◌≡◌, ◌≤◌, None, length, IfSome, OnOk};
 ghost use Rattle.std.specs.Option.{ForSome};
-ghost use Rattle.host_model.specs.Told.{GoesOn};
+ghost use Rattle.host_model.specs.Told.{TellsOn};
 ghost use Rattle.host_model.specs.Disk.{Changes, Settles, Torn, written};
 ghost use Rattle.host_model.specs.Moments.{IsBeingStored, IsBeingTold, IsStoredThenTold, LeavesOnly};
 
@@ -15,7 +15,7 @@ pub fn store<H: Host>(host: &mut H, at: u64, bytes: &[u8]) -> Result<(), HostFai
     requires stable { ForSome (H.told host.old) (λ c. Settles FileNo.Db c.db (H.left_since host.old (H.moment host.old))) }
     ensures any_moment { IfSome (H.told host.old) (λ c.
         LeavesOnly H.moment H.left_since host.old host.new (IsBeingStored c at (length bytes.now))) }
-    ensures stored { OnOk result (GoesOn (H.told host.old) (H.told host.new) (Changes FileNo.Db (λ old new. new ≡ written at bytes.now old))) }
+    ensures stored { OnOk result (TellsOn (H.told host.old) (H.told host.new) (Changes FileNo.Db (λ old new. new ≡ written at bytes.now old))) }
     ensures settled { OnOk result (IfSome (H.told host.old) (λ c.
         Settles FileNo.Db (written at bytes.now c.db) (H.left_since host.new (H.moment host.new)))) }
     ensures untold { H.told host.old ≡ None → H.told host.new ≡ None }

@@ -1,6 +1,6 @@
 ghost use Rattle.std.specs.Prelude.{◌≡◌, ◌<◌, ◌≤◌, ℕ, Option, List, length, IfOk, OnErr};
-ghost use Rattle.host_model.specs.Faults.{Rose};
-ghost use Rattle.host_model.specs.Told.{GoesOn};
+ghost use Rattle.host_model.specs.Failures.{Rose};
+ghost use Rattle.host_model.specs.Told.{TellsOn};
 ghost use Rattle.host_model.specs.Files.{Gives};
 
 use thiserror::Error;
@@ -16,14 +16,14 @@ pub trait Source: Drop {
     ghost left: { Self → Option (List ℕ) };
 
     /// How often the source has failed.
-    ghost faults: { Self → ℕ };
+    ghost failures: { Self → ℕ };
 
     /// Puts the next bytes at the front of `out`, and answers how many they are; 0 says that none are left.
     fn take(&mut self, out: &mut [u8]) -> Result<usize, SourceFailed>
         requires { 0 < length out.old }
         ensures count { IfOk result (λ n. n ≤ length out.old) }
-        ensures given { IfOk result (λ n. GoesOn (left self.old) (left self.new) (Gives out.new n)) }
+        ensures given { IfOk result (λ n. TellsOn (left self.old) (left self.new) (Gives out.new n)) }
         ensures kept { OnErr result (left self.new ≡ left self.old) }
-        ensures faults { faults self.old ≤ faults self.new }
-        ensures failed { OnErr result (Rose (faults self.old) (faults self.new)) };
+        ensures failures { failures self.old ≤ failures self.new }
+        ensures failed { OnErr result (Rose (failures self.old) (failures self.new)) };
 }

@@ -3,8 +3,8 @@ use Rattle.std.proofs.Common.{ℕ, ◌≡◌, ◌+◌, ◌≤◌, ◌<◌, Bool,
 use Rattle.std.specs.Prelude.{option_map, unwrap_or, is_none, nat_lt, nat_le, ◌&&◌}
 use Rattle.std.proofs.lemmas.Bool.{le-leb, le-ltb, lt-ltb}
 use Rattle.std.proofs.lemmas.List.{take_at, drop_at, take-append-drop, take-take}
-use Rattle.gds_pack.specs.Key.{key_len, end_in, zero_after, HasOpenFronts}
-use Rattle.gds_pack.proofs.KeyLaws.{key_len-end_in, end_in-append_open, end_in-take_less, end_in-take_same, key_len-append, HasOpenFronts-take}
+use Rattle.m_key.specs.KeyEnd.{key_len, end_in, zero_after, HasOpenFronts}
+use Rattle.m_key.proofs.KeyEndLemmas.{key_len-end_in, end_in-append_open, end_in-take_less, end_in-take_same, key_len-append, HasOpenFronts-take}
 use Rattle.gds_law.specs.Reading.{Reading, Seen, full_of, key_end, key_of, rest_of}
 use Rattle.gds_law.specs.Record.{keyed_holds}
 use Rattle.gds_law.specs.declared.kind.FaultKind.TheVariants.{KeyTooLong, KeyWithoutEnd}

@@ -2,7 +2,7 @@
 use Rattle.std.specs.Prelude.{ℕ, ◌≡◌, ◌+◌, ◌≤◌, ◌<◌, ◌⊎◌, true, false, List, [], ◌++◌, if◌then◌else◌, length, take, drop, Option, None, Some}
 use Rattle.arrayvec.specs.ArrayVec.{ArrayVec}
 use Rattle.gds_block.specs.View.{record_of}
-use Rattle.gds_pack.specs.Key.{HasOpenFronts}
+use Rattle.m_key.specs.KeyEnd.{HasOpenFronts}
 use Rattle.gds_law.specs.Reading as law
 use Rattle.gds_law.specs.Record.{keyed_holds, kinds_of, is_ended, child_of}
 use Rattle.gds_law.specs.Visit.{Child}

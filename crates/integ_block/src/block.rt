@@ -1,6 +1,6 @@
 ghost use Rattle.std.specs.Prelude.{◌≡◌, ◌≤◌, ◌<◌, ◌^◌, ℕ, ◌++◌, [], length, map, take, IfOk, OnOk, OnErr, IsErrOf};
 ghost use Rattle.std.specs.Option.{option_to_list};
-ghost use Rattle.host_model.specs.Faults.{Rose};
+ghost use Rattle.host_model.specs.Failures.{Rose};
 ghost use Rattle.gds_block.specs.Block.{level_of, used_of, IsBlock};
 ghost use Rattle.gds_block.specs.Record.{bytes_left, records_of};
 ghost use Rattle.gds_law.specs.Block.{children_from, fault_at, kinds_from, size_kinds};

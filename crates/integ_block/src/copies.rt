@@ -2,7 +2,7 @@ ghost use Rattle.std.specs.Prelude.{◌≡◌, ◌≤◌, length, option_map};
 ghost use Rattle.gds_law.specs.Seen.{role_of};
 
 use gds_law::Role;
-use gds_pack::join_key;
+use m_key::join_key;
 use m_key::Key;
 
 /// The key with these bytes.

@@ -1,6 +1,6 @@
 ghost use Rattle.std.specs.Prelude.{◌≡◌, ◌≤◌, ◌-◌, ℕ, if◌then◌else◌, ◌++◌, map, filter, length, take, Some, IfOk, OnOk, OnErr, IsErrOf};
 ghost use Rattle.std.specs.Option.{option_to_list};
-ghost use Rattle.host_model.specs.Faults.{Rose};
+ghost use Rattle.host_model.specs.Failures.{Rose};
 ghost use Rattle.gds_law.specs.Reading.{is_last, pointer_of};
 ghost use Rattle.gds_law.specs.Record.{child_of, holds, is_kind, keyed_holds, last_holds, target_of};
 ghost use Rattle.integ_block.specs.Reading.{reading, faults_at};
@@ -14,7 +14,7 @@ use crate::record::Record;
 use crate::{Child, IntegError};
 use gds_block::pointer_of;
 use gds_law::{FaultKind, FaultSink};
-use gds_pack::shared_len;
+use m_key::shared_len;
 use m_key::Key;
 
 /// The kinds that are asked of a record that doesn't end the reading of its block, in their order.

@@ -2,7 +2,7 @@
 #![tactic(auto)]
 
 ghost use Rattle.std.specs.Prelude.{◌≡◌, ◌≤◌, ℕ, ◌++◌, length, map, take, IfOk, OnOk, OnErr, IsErrOf};
-ghost use Rattle.host_model.specs.Faults.{Rose};
+ghost use Rattle.host_model.specs.Failures.{Rose};
 ghost use Rattle.gds_header.specs.Kinds.{IsWithinLimits};
 ghost use Rattle.gds_law.specs.Block.{faults_of_block, children_of};
 ghost use Rattle.integ_block.specs.Seen.{visit_of, seen_child};

@@ -1,5 +1,5 @@
 ghost use Rattle.std.specs.Prelude.{◌≡◌, ◌≤◌, ◌∷◌, [], ◌++◌, OnOk, OnErr, IsErrOf, length};
-ghost use Rattle.host_model.specs.Faults.{Rose};
+ghost use Rattle.host_model.specs.Failures.{Rose};
 ghost use Rattle.gds_law.specs.Block.{fault_at};
 ghost use Rattle.gds_law.specs.Reading.{points, reading_of};
 ghost use Rattle.gds_law.specs.Record.{is_above_bound, is_below_bound, is_directory, is_other_global, is_sound};

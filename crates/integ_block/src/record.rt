@@ -1,11 +1,11 @@
 ghost use Rattle.std.specs.Prelude.{◌≡◌, ◌+◌, ◌-◌, ◌<◌, ◌≤◌, ◌^◌, true, false, ℕ, [], ◌∷◌, ◌++◌, length, map, take, option_map, IfOk, IfErr, OnOk, OnErr, IsErrOf};
-ghost use Rattle.host_model.specs.Faults.{Rose};
+ghost use Rattle.host_model.specs.Failures.{Rose};
 ghost use Rattle.gds_law.specs.Key.{name_part};
 ghost use Rattle.gds_law.specs.Kinds.{ends};
 ghost use Rattle.gds_law.specs.Reading.{is_last, is_first};
 ghost use Rattle.gds_law.specs.Record.{low_of};
 ghost use Rattle.gds_law.specs.Visit.{global_root};
-ghost use Rattle.gds_pack.specs.Key.{HasOpenFronts};
+ghost use Rattle.m_key.specs.KeyEnd.{HasOpenFronts};
 ghost use Rattle.integ_block.specs.Reading.{reading};
 ghost use Rattle.integ_block.specs.Entry.{children_here, faults_here, kinds_here, seen, IsEntry, IsCount, IsKeyPart, LeavesHere};
 ghost use Rattle.integ_block.specs.Seen.{seen_child};
@@ -17,7 +17,7 @@ use crate::reading::Reading;
 use crate::{Child, IntegError};
 use gds_block::RecordView;
 use gds_law::{FaultKind, FaultSink, Role};
-use gds_pack::{end_in, ends_in_zero, join_key};
+use m_key::{end_in, ends_in_zero, join_key};
 use m_key::Key;
 
 /// Where the first record of a block stands.

@@ -6,3 +6,4 @@ pub mod FillLemmas
 pub mod ReadingLemmas
 pub mod PlaceLemmas
 pub mod CollationLemmas
+pub mod KeyEndLemmas

@@ -10,7 +10,7 @@ use Rattle.m_number.specs.Bytes.{bytes_of}
 use Rattle.m_key.specs.declared.subscript.Subscript.{Subscript}
 use Rattle.m_key.specs.Node.{Node, NodeSubscript, number, string, IsText, IsSubscript, IsNode}
 use Rattle.m_key.specs.Key.{escaped, subscript_bytes, ended, lead_bytes, key_bytes}
-use Rattle.m_key.specs.Seen.{node_subscript_of, is_subscript}
+use Rattle.m_key.specs.Reference.{node_subscript_of, is_subscript}
 use Rattle.m_key.proofs.ZeroLemmas.{NoZero, split-ended}
 use Rattle.m_key.proofs.EscapeLemmas.{escaped-split, escaped-begun, escaped-injective}
 use Rattle.m_key.proofs.KeyLemmas as keys

@@ -4,7 +4,8 @@ pub use Rattle.m_number.specs.Bytes
 pub use Rattle.m_number.specs.Order
 pub mod Node
 pub mod Key
+pub mod KeyEnd
 pub mod Collation
 pub mod Globals
-pub mod Seen
+pub mod Reference
 pub mod Writing

@@ -2,9 +2,9 @@ ghost use Rattle.std.specs.Prelude.{◌≡◌};
 ghost use Rattle.std.specs.Ordering.{on};
 ghost use Rattle.std.specs.Cmp.Lexicographic.{slice_cmp};
 ghost use Rattle.m_number.specs.Order.{number_cmp, side_of, size_cmp};
-ghost use Rattle.m_number.specs.Seen.{numeral_of};
+ghost use Rattle.m_number.specs.Number.{numeral_of};
 ghost use Rattle.m_key.specs.Collation.{subscript_cmp, reference_cmp};
-ghost use Rattle.m_key.specs.Seen.{node_subscript_of, node_of};
+ghost use Rattle.m_key.specs.Reference.{node_subscript_of, node_of};
 
 use crate::{Reference, Subscript};
 use m_number::Number;

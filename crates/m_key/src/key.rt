@@ -32,7 +32,7 @@ pub(crate) struct Written {
 impl Written {
     ghost use Rattle.std.specs.Prelude.{◌++◌, ◌∷◌, [], length, map, take, min, flat_map};
     ghost use Rattle.m_key.specs.Key.{escaped, subscript_bytes, ended, key_bytes};
-    ghost use Rattle.m_key.specs.Seen.{node_subscript_of, node_of};
+    ghost use Rattle.m_key.specs.Reference.{node_subscript_of, node_of};
     ghost use Rattle.m_key.specs.Writing.{Appends};
 
     // The key of a reference.

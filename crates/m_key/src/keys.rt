@@ -1,6 +1,6 @@
 ghost use Rattle.std.specs.Prelude.{◌≡◌, ◌-◌, ◌^◌, ◌<◌, ◌↔◌, length, min, IsErr, OnOk, IfErr, OnErr};
 ghost use Rattle.m_key.specs.Key.{key_bytes};
-ghost use Rattle.m_key.specs.Seen.{node_of};
+ghost use Rattle.m_key.specs.Reference.{node_of};
 
 use crate::key::Written;
 use crate::{Key, KeyTooLong, Reference};

@@ -3,6 +3,7 @@
 
 mod collation;
 mod key;
+mod key_end;
 mod keys;
 mod laws;
 mod name;
@@ -13,6 +14,7 @@ mod subscript;
 
 pub use collation::compare;
 pub use key::{Key, KeyTooLong};
+pub use key_end::{end_in, ends_in_zero, join_key, shared_len};
 pub use keys::{key_len, key_of};
 pub use laws::{changes, descendants, no_key_begins_another, order, places};
 pub use name::Name;

@@ -13,7 +13,7 @@ pub struct Name {
 }
 
 impl Name {
-    ghost use Rattle.m_key.specs.Seen.{name_bytes};
+    ghost use Rattle.m_key.specs.Reference.{name_bytes};
 
     /// The bytes of the name.
     pub fn bytes(&self) -> &[u8]

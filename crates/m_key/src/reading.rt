@@ -4,7 +4,7 @@ ghost use Rattle.m_number.specs.Numeral.{Numeral, IsNumeral};
 ghost use Rattle.m_number.specs.Text.{text_of};
 ghost use Rattle.m_key.specs.Node.{Node, NodeSubscript, IsText, IsSubscript, IsNode};
 ghost use Rattle.m_key.specs.Key.{escaped, subscript_bytes, ended, key_bytes};
-ghost use Rattle.m_key.specs.Seen.{node_subscript_of, subscript_list, node_of};
+ghost use Rattle.m_key.specs.Reference.{node_subscript_of, subscript_list, node_of};
 
 use crate::{Name, Reference, Subscript, Subscripts, Text};
 use m_number::{decode, parse_canonical};

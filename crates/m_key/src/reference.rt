@@ -10,7 +10,7 @@ pub struct Subscripts {
 }
 
 impl Subscripts {
-    ghost use Rattle.m_key.specs.Seen.{subscript_list};
+    ghost use Rattle.m_key.specs.Reference.{subscript_list};
 
     /// These subscripts, of which there are at most 31.
     pub fn new(items: Vec<Subscript>) -> Self

@@ -2,7 +2,7 @@ ghost use Rattle.std.specs.Prelude.{◌≡◌, ◌<◌, ◌↔◌, ℕ, length, 
 ghost use Rattle.m_number.specs.Numeral.{Numeral, IsNumeral};
 ghost use Rattle.m_number.specs.Text.{text_of};
 ghost use Rattle.m_key.specs.Node.{IsName, spelled};
-ghost use Rattle.m_key.specs.Seen.{name_bytes, node_subscript_of};
+ghost use Rattle.m_key.specs.Reference.{name_bytes, node_subscript_of};
 
 use crate::{Name, Subscript, Text};
 use m_number::parse_canonical;

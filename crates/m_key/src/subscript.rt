@@ -13,7 +13,7 @@ pub struct Text {
 }
 
 impl Text {
-    ghost use Rattle.m_key.specs.Seen.{text_bytes};
+    ghost use Rattle.m_key.specs.Reference.{text_bytes};
 
     /// The bytes of the string.
     pub fn bytes(&self) -> &[u8]

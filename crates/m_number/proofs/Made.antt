@@ -2,7 +2,7 @@
 use Rattle.std.proofs.Common.{◌≡◌, ◌∙◌, sym, subst, Option, Some, None}
 use Rattle.std.specs.Prelude.{IfSome, IfNone, IsSomeAnd}
 use Rattle.m_number.specs.Numeral.{Numeral, IsNumeral}
-use Rattle.m_number.specs.Seen.{numeral_of}
+use Rattle.m_number.specs.Number.{numeral_of}
 use Rattle.m_number.specs.declared.number.Number.{Number}
 
 pub made : (r : Option Number) (m n : Numeral) → m ≡ n → IsNumeral n → IfSome r (λ x. numeral_of x ≡ m) → IfNone r (IsNumeral m → ⊥) → IsSomeAnd r (λ x. numeral_of x ≡ n)

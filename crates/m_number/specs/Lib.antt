@@ -4,4 +4,4 @@ pub mod Bytes
 pub mod Packed
 pub mod Order
 pub mod Value
-pub mod Seen
+pub mod Number

@@ -4,7 +4,7 @@ ghost use Rattle.arrayvec.specs.ArrayVec.{array_vec_len};
 ghost use Rattle.m_number.specs.Numeral.{Numeral, IsNumeral};
 ghost use Rattle.m_number.specs.Bytes.{bytes_of, first_byte, pairs_of};
 ghost use Rattle.m_number.specs.Packed.{signed_byte, pair_of, unfilled};
-ghost use Rattle.m_number.specs.Seen.{numeral_of};
+ghost use Rattle.m_number.specs.Number.{numeral_of};
 
 use crate::{Digits, Number};
 use arrayvec::ArrayVec;

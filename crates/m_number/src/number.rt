@@ -20,7 +20,7 @@ pub struct Number {
 
 impl Clone for Number {
     ghost use Rattle.std.specs.Prelude.{◌≡◌, ⊤};
-    ghost use Rattle.m_number.specs.Seen.{numeral_of};
+    ghost use Rattle.m_number.specs.Number.{numeral_of};
 
     ghost is_clone = { λ number copy. numeral_of copy ≡ numeral_of number };
 
@@ -36,7 +36,7 @@ impl Clone for Number {
 }
 
 impl Number {
-    ghost use Rattle.m_number.specs.Seen.{numeral_of};
+    ghost use Rattle.m_number.specs.Number.{numeral_of};
 
     /// The number of these parts, where there is one.
     pub(crate) fn new(negative: bool, digits: Digits, exponent: i8) -> Option<Number>

@@ -3,7 +3,7 @@ ghost use Rattle.std.specs.List.{prefix_len, suffix_len};
 ghost use Rattle.arrayvec.specs.ArrayVec.{array_vec_len};
 ghost use Rattle.m_number.specs.Numeral.{Numeral, IsNumeral};
 ghost use Rattle.m_number.specs.Text.{text_of, size_text, large_text, codes_of};
-ghost use Rattle.m_number.specs.Seen.{numeral_of};
+ghost use Rattle.m_number.specs.Number.{numeral_of};
 
 use crate::{Digits, Number};
 use arrayvec::ArrayVec;

@@ -5,7 +5,7 @@ use Rattle.std.proofs.lemmas.List.{append-nil}
 use Rattle.std.specs.Prelude.{IfSome, IfNone}
 use Rattle.std.specs.Option.{is_some}
 use Rattle.m_number.specs.declared.number.Number.{Number}
-use Rattle.m_number.specs.Seen.{numeral_of}
+use Rattle.m_number.specs.Number.{numeral_of}
 use Rattle.m_number.specs.Numeral.{Numeral, IsNumeral}
 use Rattle.m_number.specs.Text.{text_of}
 use Rattle.m_text.specs.Grammar.{joined, c, char, zch, zchar, Piece, quoted, coded, piece_text, piece_bytes, IsPiece, Expression, bare, string, expression_text, expression_bytes, IsExpression, IsValueText}

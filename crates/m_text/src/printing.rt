@@ -1,5 +1,5 @@
 ghost use Rattle.std.specs.Prelude.{◌≡◌, ◌<◌, ◌∷◌, ◌++◌, length, map, take, flat_map, IfOk, OnOk, OnErr};
-ghost use Rattle.m_key.specs.Seen.{node_subscript_of, node_of};
+ghost use Rattle.m_key.specs.Reference.{node_subscript_of, node_of};
 ghost use Rattle.m_text.specs.Written.{runs_of, runs_text, more_runs_text, value_text, subscript_text, reference_text};
 
 use crate::quoting::{is_printable, printable_len, push_coded, push_quoted, unprintable_len};

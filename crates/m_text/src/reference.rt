@@ -2,7 +2,7 @@ ghost use Rattle.std.specs.Prelude.{◌≡◌, ◌≤◌, ◌∷◌, ◌++◌, �
 ghost use Rattle.std.specs.Char.{is_ascii_alphanumeric};
 ghost use Rattle.std.specs.List.{AllByRecursion, prefix_len};
 ghost use Rattle.m_key.specs.Node.{Node, NodeSubscript, IsName, IsSubscript};
-ghost use Rattle.m_key.specs.Seen.{name_bytes, node_subscript_of, node_of};
+ghost use Rattle.m_key.specs.Reference.{name_bytes, node_subscript_of, node_of};
 ghost use Rattle.m_text.specs.Grammar.{IsReferenceText};
 ghost use Rattle.m_text.specs.Standing.{ListStandsAt, longest_name};
 

@@ -1,7 +1,7 @@
 ghost use Rattle.std.specs.Prelude.{◌≡◌, ◌≤◌, ℕ, List, length, map, vec_len, IfOk, IfSome, IfNone};
 ghost use Rattle.std.specs.List.{prefix_len, AllByRecursion};
 ghost use Rattle.m_key.specs.Node.{NodeSubscript, IsSubscript};
-ghost use Rattle.m_key.specs.Seen.{node_subscript_of};
+ghost use Rattle.m_key.specs.Reference.{node_subscript_of};
 ghost use Rattle.m_text.specs.Reading.{is_number_byte};
 ghost use Rattle.m_text.specs.Standing.{StandsAt, IsEnded, ListStandsAt};
 

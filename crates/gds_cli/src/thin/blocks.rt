@@ -1,6 +1,6 @@
 ghost use Rattle.std.specs.Prelude.{◌≡◌, ◌<◌, IsTrue, length, IfOk, OnOk, IfErr, IfSome, IfNone};
 ghost use Rattle.std.specs.Option.{ForSome};
-ghost use Rattle.host_model.specs.Faults.{NeverFell};
+ghost use Rattle.host_model.specs.Failures.{NeverFell};
 ghost use Rattle.gds_header.specs.Fields.{block_of};
 ghost use Rattle.gds_header.specs.Kinds.{IsWithinLimits};
 ghost use Rattle.gds_cli.specs.Thin.{is_star_block};
@@ -22,8 +22,8 @@ pub(crate) fn read_block<H: Host>(
     ensures bytes { OnOk result (ForSome (H.told host.old) (λ c.
         IsHeaderOf header.now c.db → number < header.now.total → block.new ≡ block_of c.db number)) }
     ensures told { H.told host.new ≡ H.told host.old }
-    ensures faults { NeverFell (H.faults host.old) (H.faults host.new) }
-    ensures blame { IfErr result (λ t. Blames t (H.faults host.old) (H.faults host.new)) }
+    ensures failures { NeverFell (H.failures host.old) (H.failures host.new) }
+    ensures blame { IfErr result (λ t. Blames t (H.failures host.old) (H.failures host.new)) }
     ensures changed { IfErr result (λ t. IsChange t → ForSome (H.told host.old) (λ c.
         IsHeaderOf header.now c.db → number < header.now.total → ⊥)) }
 {
@@ -52,8 +52,8 @@ pub(crate) fn read_below<H: Host>(
         IsHeaderOf header.now c.db → number < header.now.total
         → IsTrue (is_star_block header.now (block_of c.db number)) → ⊥))) }
     ensures told { H.told host.new ≡ H.told host.old }
-    ensures faults { NeverFell (H.faults host.old) (H.faults host.new) }
-    ensures blame { IfErr result (λ t. Blames t (H.faults host.old) (H.faults host.new)) }
+    ensures failures { NeverFell (H.failures host.old) (H.failures host.new) }
+    ensures blame { IfErr result (λ t. Blames t (H.failures host.old) (H.failures host.new)) }
     ensures changed { IfErr result (λ t. IsChange t → ForSome (H.told host.old) (λ c.
         IsHeaderOf header.now c.db → number < header.now.total → ⊥)) }
 {

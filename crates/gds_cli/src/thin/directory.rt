@@ -1,11 +1,11 @@
 ghost use Rattle.std.specs.Prelude.{◌≡◌, ◌↔◌, nat_eq, IsTrue, List, length, map, IfOk, IfErr, IfSome, IfNone, SomeIff};
 ghost use Rattle.std.specs.List.{AllZip, IsDistinct};
 ghost use Rattle.std.specs.Option.{ForSome};
-ghost use Rattle.host_model.specs.Faults.{NeverFell};
+ghost use Rattle.host_model.specs.Failures.{NeverFell};
 ghost use Rattle.gds_header.specs.Kinds.{IsWithinLimits};
 ghost use Rattle.gds_cli.specs.Thin.{Valued, IsGlobal, IsThin, root_of};
 ghost use Rattle.gds_cli.specs.LeafSeen.{valued};
-ghost use Rattle.m_key.specs.Seen.{name_bytes};
+ghost use Rattle.m_key.specs.Reference.{name_bytes};
 ghost use Rattle.gds_cli.specs.Reading.{Blames, IsChange, IsHeaderOf, IsEntry, IsNodeOf, AreNodesOf, AreTrees, AreLeaves, tree_at, blocks_in};
 
 use super::blocks::read_below;
@@ -40,8 +40,8 @@ pub(crate) fn find_leaves<H: Host>(
     ensures none { IfOk result (λ o. IfNone o (ForSome (H.told host.old) (λ c. IsHeaderOf header.now c.db
         → (directory : List Valued) (globals : List (List Valued)) → IsThin c.db c.images directory globals → ⊥))) }
     ensures told { H.told host.new ≡ H.told host.old }
-    ensures faults { NeverFell (H.faults host.old) (H.faults host.new) }
-    ensures blame { IfErr result (λ t. Blames t (H.faults host.old) (H.faults host.new)) }
+    ensures failures { NeverFell (H.failures host.old) (H.failures host.new) }
+    ensures blame { IfErr result (λ t. Blames t (H.failures host.old) (H.failures host.new)) }
     ensures changed { IfErr result (λ t. IsChange t → ForSome (H.told host.old) (λ c. IsHeaderOf header.now c.db → ⊥)) }
 {
     let mut directory = vec![in alloc; 0u8; header.block_size as usize]?;
@@ -65,8 +65,8 @@ fn read_leaves<H: Host>(
     ensures none { IfOk result (λ o. IfNone o (ForSome (H.told host.old) (λ c. IsHeaderOf header.now c.db
         → (directory : List Valued) (globals : List (List Valued)) → IsThin c.db c.images directory globals → ⊥))) }
     ensures told { H.told host.new ≡ H.told host.old }
-    ensures faults { NeverFell (H.faults host.old) (H.faults host.new) }
-    ensures blame { IfErr result (λ t. Blames t (H.faults host.old) (H.faults host.new)) }
+    ensures failures { NeverFell (H.failures host.old) (H.failures host.new) }
+    ensures blame { IfErr result (λ t. Blames t (H.failures host.old) (H.failures host.new)) }
     ensures changed { IfErr result (λ t. IsChange t → ForSome (H.told host.old) (λ c. IsHeaderOf header.now c.db → ⊥)) }
 {
     let Some(number) = read_below(host, header, TOP, directory)? else {
@@ -128,8 +128,8 @@ fn read_trees<H: Host>(
     ensures none { IfOk result (λ o. IfNone o (ForSome (H.told host.old) (λ c. IsHeaderOf header.now c.db
         → (globals : List (List Valued)) → AllZip (IsGlobal c.db) (map valued entries.now) globals → ⊥))) }
     ensures told { H.told host.new ≡ H.told host.old }
-    ensures faults { NeverFell (H.faults host.old) (H.faults host.new) }
-    ensures blame { IfErr result (λ t. Blames t (H.faults host.old) (H.faults host.new)) }
+    ensures failures { NeverFell (H.failures host.old) (H.failures host.new) }
+    ensures blame { IfErr result (λ t. Blames t (H.failures host.old) (H.failures host.new)) }
     ensures changed { IfErr result (λ t. IsChange t → ForSome (H.told host.old) (λ c. IsHeaderOf header.now c.db → ⊥)) }
 {
     let mut trees = Vec::new(alloc);
@@ -157,8 +157,8 @@ fn read_tree<H: Host>(
     ensures none { IfOk result (λ o. IfNone o (ForSome (H.told host.old) (λ c. IsHeaderOf header.now c.db
         → (vs : List Valued) → IsGlobal c.db (valued entry.now) vs → ⊥))) }
     ensures told { H.told host.new ≡ H.told host.old }
-    ensures faults { NeverFell (H.faults host.old) (H.faults host.new) }
-    ensures blame { IfErr result (λ t. Blames t (H.faults host.old) (H.faults host.new)) }
+    ensures failures { NeverFell (H.failures host.old) (H.failures host.new) }
+    ensures blame { IfErr result (λ t. Blames t (H.failures host.old) (H.failures host.new)) }
     ensures changed { IfErr result (λ t. IsChange t → ForSome (H.told host.old) (λ c. IsHeaderOf header.now c.db → ⊥)) }
 {
     let Some(root) = root_of(header, entry) else {

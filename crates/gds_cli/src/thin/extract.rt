@@ -1,6 +1,6 @@
 ghost use Rattle.std.specs.Prelude.{◌≡◌, None, IfOk, IfErr, IfSome, IfNone};
 ghost use Rattle.std.specs.Option.{ForSome};
-ghost use Rattle.host_model.specs.Faults.{NeverFell};
+ghost use Rattle.host_model.specs.Failures.{NeverFell};
 ghost use Rattle.gds_header.specs.Kinds.{IsWithinLimits};
 ghost use Rattle.m_key.specs.Globals.{Globals};
 ghost use Rattle.gds_cli.specs.Thin.{IsThinWith};
@@ -26,8 +26,8 @@ struct Thin {
 /// Says the extract of thin files. Of others it says nothing, and answers false.
 pub(crate) fn extract<H: Host>(alloc: Global, host: &mut H, stamp: &[u8]) -> Result<bool, Trouble>
     ensures told { ForSome (H.told host.old) (λ c. ExtractEnds stamp.now c result (H.told host.new)) }
-    ensures faults { NeverFell (H.faults host.old) (H.faults host.new) }
-    ensures blame { IfErr result (λ t. Blames t (H.faults host.old) (H.faults host.new)) }
+    ensures failures { NeverFell (H.failures host.old) (H.failures host.new) }
+    ensures blame { IfErr result (λ t. Blames t (H.failures host.old) (H.failures host.new)) }
     ensures changed { IfErr result (λ t. IsChange t → H.told host.old ≡ None) }
 {
     let Some(thin) = find_thin(alloc, host)? else {
@@ -47,8 +47,8 @@ fn find_thin<H: Host>(alloc: Global, host: &mut H) -> Result<Option<Thin>, Troub
     ensures none { IfOk result (λ o. IfNone o (ForSome (H.told host.old) (λ c.
         (m : Globals) → IsThinWith c.db c.images m → ⊥))) }
     ensures told { H.told host.new ≡ H.told host.old }
-    ensures faults { NeverFell (H.faults host.old) (H.faults host.new) }
-    ensures blame { IfErr result (λ t. Blames t (H.faults host.old) (H.faults host.new)) }
+    ensures failures { NeverFell (H.failures host.old) (H.failures host.new) }
+    ensures blame { IfErr result (λ t. Blames t (H.failures host.old) (H.failures host.new)) }
     ensures changed { IfErr result (λ t. IsChange t → H.told host.old ≡ None) }
 {
     if !is_closed(host)? {

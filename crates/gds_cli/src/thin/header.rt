@@ -1,7 +1,7 @@
 ghost use Rattle.std.specs.Prelude.{◌≡◌, ◌≢◌, ℕ, List, [], length, take, not, ◌||◌, ◌==◌, IfOk, IfErr, IfSome, IfNone, None};
 ghost use Rattle.std.specs.Option.{ForSome};
 ghost use Rattle.std.specs.List.{list_all, list_any};
-ghost use Rattle.host_model.specs.Faults.{NeverFell};
+ghost use Rattle.host_model.specs.Failures.{NeverFell};
 ghost use Rattle.gds_header.specs.Fields.{fields_of};
 ghost use Rattle.gds_header.specs.Kinds.{IsWithinLimits, header_faults, holds, has_free, groups_past, reserved_bytes};
 ghost use Rattle.gds_cli.specs.Reading.{Blames, IsChange, IsHeaderOf, are_zeros, is_clear, is_sound};
@@ -24,8 +24,8 @@ pub(crate) fn sound_header<H: Host>(host: &mut H) -> Result<Option<Header>, Trou
     ensures limits { IfOk result (λ o. IfSome o IsWithinLimits) }
     ensures none { IfOk result (λ o. IfNone o (ForSome (H.told host.old) (λ c. header_faults c.db ≢ []))) }
     ensures told { H.told host.new ≡ H.told host.old }
-    ensures faults { NeverFell (H.faults host.old) (H.faults host.new) }
-    ensures blame { IfErr result (λ t. Blames t (H.faults host.old) (H.faults host.new)) }
+    ensures failures { NeverFell (H.failures host.old) (H.failures host.new) }
+    ensures blame { IfErr result (λ t. Blames t (H.failures host.old) (H.failures host.new)) }
     ensures changed { IfErr result (λ t. IsChange t → H.told host.old ≡ None) }
 {
     let length = host.len(FileNo::Db)?;

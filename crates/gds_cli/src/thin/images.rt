@@ -1,7 +1,7 @@
 ghost use Rattle.std.specs.Prelude.{◌≡◌, nat_eq, codes, [], ◌∷◌, ◌++◌, IfOk, IfErr};
 ghost use Rattle.std.specs.Option.{ForSome};
 ghost use Rattle.std.specs.List.{starts_with};
-ghost use Rattle.host_model.specs.Faults.{NeverFell};
+ghost use Rattle.host_model.specs.Failures.{NeverFell};
 ghost use Rattle.gds_cli.specs.Reading.{Blames, IsChange};
 
 use super::trouble::Trouble;
@@ -15,8 +15,8 @@ pub(crate) fn is_closed<H: Host>(host: &mut H) -> Result<bool, Trouble>
     ensures value { IfOk result (λ b. ForSome (H.told host.old) (λ c.
         b ≡ starts_with nat_eq c.images (codes "GDSBIMG1" ++ 0 ∷ []))) }
     ensures told { H.told host.new ≡ H.told host.old }
-    ensures faults { NeverFell (H.faults host.old) (H.faults host.new) }
-    ensures blame { IfErr result (λ t. Blames t (H.faults host.old) (H.faults host.new)) }
+    ensures failures { NeverFell (H.failures host.old) (H.failures host.new) }
+    ensures blame { IfErr result (λ t. Blames t (H.failures host.old) (H.failures host.new)) }
     ensures changed { IfErr result (λ t. IsChange t → ⊥) }
 {
     let mut front = [0u8; CLOSED.len()];

@@ -4,7 +4,7 @@ ghost use Rattle.std.specs.Ordering.{nat_cmp, is_lt};
 ghost use Rattle.std.specs.Cmp.Lexicographic.{slice_cmp};
 ghost use Rattle.m_key.specs.Node.{Node, IsNode};
 ghost use Rattle.m_key.specs.Key.{key_bytes};
-ghost use Rattle.m_key.specs.Seen.{node_of};
+ghost use Rattle.m_key.specs.Reference.{node_of};
 ghost use Rattle.gds_block.specs.View.{record_of};
 ghost use Rattle.gds_header.specs.Kinds.{IsWithinLimits};
 ghost use Rattle.gds_cli.specs.Thin.{Valued, IsRecordOf, IsLeaf, child_of, is_block_number, is_star_block};

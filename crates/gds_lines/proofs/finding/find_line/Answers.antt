@@ -1,6 +1,6 @@
 use Rattle.std.proofs.Common.{◌≡◌, ◌<◌, List, ℕ, sym, subst, arith, length}
 use Rattle.std.specs.Io.KnownBytes.{prepend_known}
-use Rattle.host_model.specs.Told.{GoesOn}
+use Rattle.host_model.specs.Told.{TellsOn}
 use Rattle.gds_lines.specs.Lines.{line_len, after_first_line}
 use Rattle.gds_lines.specs.Ahead.{held, text_left}
 use Rattle.gds_lines.proofs.PartLemmas.{length-cut}
@@ -44,7 +44,7 @@ returns-then-branch-eq0-clause-line g c =
     let left = g.I.Source.left c.loop-end.source in
     let now = g.I.Source.left c.fill.new.source in
     let before = subst Unended c.held.ensures c.in_default.ensures in
-    let seen = subst (λ l. GoesOn text (prepend_known l left) LooksAs) (sym c.shorten.ensures.cut) (seen-shortened text (held c.loop-end.ahead) left before c.loop-end.invariant.seen) in
+    let seen = subst (λ l. TellsOn text (prepend_known l left) LooksAs) (sym c.shorten.ensures.cut) (seen-shortened text (held c.loop-end.ahead) left before c.loop-end.invariant.seen) in
     let ended = seen-ended text (text_left c.shorten.new.self left) (text_left c.fill.new.ahead now) (held c.fill.new.ahead) c.in_ok-fill.field-0 c.if-branch-eq0.true seen c.in_ok-fill.ensures.text in
     ended-line text (text_left c.fill.new.ahead now) (held c.fill.new.ahead) _ ended c.give_all.ensures.line
 
@@ -56,9 +56,9 @@ returns-then-branch-eq0-clause-left g c =
     let before = subst Unended c.held.ensures c.in_default.ensures in
     let cut = subst Unended (sym c.shorten.ensures.cut) (line_len-take_unended 1048578 (held c.loop-end.ahead) before) in
     let unended = subst Unended (sym (c.in_ok-fill.ensures.none c.if-branch-eq0.true)) cut in
-    let seen = subst (λ l. GoesOn text (prepend_known l left) LooksAs) (sym c.shorten.ensures.cut) (seen-shortened text (held c.loop-end.ahead) left before c.loop-end.invariant.seen) in
+    let seen = subst (λ l. TellsOn text (prepend_known l left) LooksAs) (sym c.shorten.ensures.cut) (seen-shortened text (held c.loop-end.ahead) left before c.loop-end.invariant.seen) in
     let ended = seen-ended text (text_left c.shorten.new.self left) (text_left c.fill.new.ahead now) (held c.fill.new.ahead) c.in_ok-fill.field-0 c.if-branch-eq0.true seen c.in_ok-fill.ensures.text in
-    subst (λ l. GoesOn text (prepend_known l now) (λ t rest. rest ≡ after_first_line t)) (sym c.give_all.ensures.rest) (ended-rest text (held c.fill.new.ahead) now unended ended)
+    subst (λ l. TellsOn text (prepend_known l now) (λ t rest. rest ≡ after_first_line t)) (sym c.give_all.ensures.rest) (ended-rest text (held c.fill.new.ahead) now unended ended)
 
 pub loop-end-preserved : goal.loop-end-preserved
 loop-end-preserved g c =
@@ -67,7 +67,7 @@ loop-end-preserved g c =
     let now = g.I.Source.left c.fill.new.source in
     let before = subst Unended c.held.ensures c.in_default.ensures in
     let cut = subst Unended (sym c.shorten.ensures.cut) (line_len-take_unended 1048578 (held c.loop-end.ahead) before) in
-    let seen = subst (λ l. GoesOn text (prepend_known l left) LooksAs) (sym c.shorten.ensures.cut) (seen-shortened text (held c.loop-end.ahead) left before c.loop-end.invariant.seen) in
+    let seen = subst (λ l. TellsOn text (prepend_known l left) LooksAs) (sym c.shorten.ensures.cut) (seen-shortened text (held c.loop-end.ahead) left before c.loop-end.invariant.seen) in
     let n = c.in_ok-fill.field-0 in
     record {
       seen = seen-filled text (text_left c.shorten.new.self left) (text_left c.fill.new.ahead now) (λ new. n ≡ 0 → new ≡ held c.fill.new.ahead) seen c.in_ok-fill.ensures.text;
@@ -76,5 +76,5 @@ loop-end-preserved g c =
       onward = omega (arith, c.loop-end.invariant.onward, c.shorten.ensures.len, c.fill.ensures.passed);
       taken = omega (arith, c.loop-end.invariant.taken, c.fill.ensures.taken);
       within = c.in_ok-fill.ensures.within;
-      faults = omega (arith, c.loop-end.invariant.faults, c.fill.ensures.faults);
+      failures = omega (arith, c.loop-end.invariant.failures, c.fill.ensures.failures);
     }

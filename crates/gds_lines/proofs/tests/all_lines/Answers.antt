@@ -1,7 +1,7 @@
 use Rattle.std.proofs.Common.{◌≡◌, ◌++◌, ◌∷◌, [], map, List, ℕ, Vec, Global, subst, sym, ap, ◌∙◌, arith}
 use Rattle.std.proofs.lemmas.List.{map_push}
 use Rattle.std.specs.Str.Lines.{lines}
-use Rattle.host_model.specs.Told.{GoesOn}
+use Rattle.host_model.specs.Told.{TellsOn}
 use Rattle.gds_lines.specs.Lines.{given}
 use Rattle.gds_lines.proofs.ToldLemmas.{so_far-more}
 use Rattle.gds_lines.proofs.tests.all_lines.Goals as goal
@@ -20,7 +20,7 @@ loop-all-preserved g c =
     let pushed = ap (map bytes_of) c.in_ok-push.ensures.items ∙ map_push bytes_of before c.in_ok-from_slice.field-0 ∙ ap (λ l. map bytes_of before ++ l ∷ []) c.in_ok-from_slice.ensures.items in
     let short = rw c.in_ok-line.was at taken.short in
     record {
-      so_far = subst (λ l. GoesOn text new.left (λ t rest. map given (lines t) ≡ l ++ map given (lines rest))) (sym pushed) more;
+      so_far = subst (λ l. TellsOn text new.left (λ t rest. map given (lines t) ≡ l ++ map given (lines rest))) (sym pushed) more;
       goes = rw c.in_ok-line.was at taken.refused;
       passed = omega (arith, taken.behind, short);
     }

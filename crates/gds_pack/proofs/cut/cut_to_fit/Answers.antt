@@ -1,7 +1,7 @@
 use Rattle.std.proofs.Common.{◌+◌, drop, ◌++◌, ◌∷◌, [], ◌∙◌, ℕ, List, ap, sym, subst}
 use Rattle.std.proofs.lemmas.List.{take_rest}
 use Rattle.gds_pack.specs.Cut.{AreFullRuns, runs}
-use Rattle.gds_pack.specs.Seen.{items}
+use Rattle.gds_pack.specs.Entry.{items}
 use Rattle.gds_pack.specs.declared.entry.Entry.{Entry}
 use Rattle.gds_pack.proofs.CutLaws.{Fitting, AreFullRuns-last, AreFullRuns-more}
 use Rattle.gds_pack.proofs.cut.cut_to_fit.Goals as goal

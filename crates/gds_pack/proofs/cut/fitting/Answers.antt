@@ -1,6 +1,6 @@
 use Rattle.std.proofs.Common.{◌∙◌, sym, ap, arith}
 use Rattle.gds_pack.specs.Packed.{record_size}
-use Rattle.gds_pack.specs.Seen.{item}
+use Rattle.gds_pack.specs.Entry.{item}
 use Rattle.gds_pack.proofs.ListLaws.{records_size-take, key_behind-take}
 use Rattle.gds_pack.proofs.cut.fitting.Goals as goal
 

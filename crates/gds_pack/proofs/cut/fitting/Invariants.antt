@@ -1,6 +1,6 @@
 use Rattle.std.proofs.Common.{◌≡◌, ◌≤◌, [], take}
 use Rattle.gds_pack.specs.Packed.{packed_size, key_behind}
-use Rattle.gds_pack.specs.Seen.{items}
+use Rattle.gds_pack.specs.Entry.{items}
 use Rattle.gds_pack.proofs.cut.fitting.Given as goal
 
 abbrev pub invariant-loop-i : goal.invariant-loop-i

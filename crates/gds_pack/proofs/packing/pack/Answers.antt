@@ -3,7 +3,7 @@ use Rattle.std.specs.Prelude.{replicate}
 use Rattle.std.proofs.lemmas.List.{drop_all}
 use Rattle.gds_block.specs.Block.{IsBlock, used_of}
 use Rattle.gds_block.specs.Record.{records_of}
-use Rattle.gds_pack.specs.Seen.{items}
+use Rattle.gds_pack.specs.Entry.{items}
 use Rattle.gds_pack.specs.Unpacked.{entries_of}
 use Rattle.gds_pack.proofs.PackLaws.{written_block}
 use Rattle.gds_pack.proofs.ReadLaws.{used_of-block_bytes, IsBlock-block_bytes, records_of-block_bytes, entries_of-block_bytes}

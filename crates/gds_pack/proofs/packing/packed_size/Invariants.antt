@@ -1,6 +1,6 @@
 use Rattle.std.proofs.Common.{◌≡◌, ◌≤◌, ◌+◌, ◌-◌, ◌^◌, min, drop}
 use Rattle.gds_pack.specs.Packed.{packed_size, records_size}
-use Rattle.gds_pack.specs.Seen.{items}
+use Rattle.gds_pack.specs.Entry.{items}
 use Rattle.gds_pack.proofs.packing.packed_size.Given as goal
 
 abbrev pub invariant-loop-entry : goal.invariant-loop-entry

@@ -1,6 +1,6 @@
 use Rattle.std.proofs.Common.{◌≡◌, ◌+◌, ◌++◌, [], take, drop}
 use Rattle.gds_pack.specs.Packed.{packed_size, records_size, records_bytes}
-use Rattle.gds_pack.specs.Seen.{items}
+use Rattle.gds_pack.specs.Entry.{items}
 use Rattle.gds_pack.proofs.packing.write_records.Given as goal
 
 abbrev pub invariant-loop-entry : goal.invariant-loop-entry

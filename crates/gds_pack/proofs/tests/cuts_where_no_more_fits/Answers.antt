@@ -1,5 +1,5 @@
 use Rattle.std.proofs.Common.{ℕ, ◌≤◌, List, [], ◌∷◌, refl, sym, subst, arith}
-use Rattle.gds_pack.specs.Item.{Item}
+use Rattle.gds_block.specs.Item.{Item}
 use Rattle.gds_pack.specs.Cut.{CanBeCut}
 use Rattle.gds_pack.proofs.tests.cuts_where_no_more_fits.Goals as goal
 

@@ -1,6 +1,6 @@
 use Rattle.std.proofs.Common.{◌≡◌, ◌∙◌, true, false, take, sym, ap}
 use Rattle.gds_block.specs.View.{record_of}
-use Rattle.gds_pack.specs.Key.{end_in, zero_after}
+use Rattle.m_key.specs.KeyEnd.{end_in, zero_after}
 use Rattle.gds_pack.specs.Unpacked.{is_count}
 use Rattle.gds_pack.proofs.UnpackLaws.{read-no_end, read-long, IsKeyPart-short}
 use Rattle.gds_pack.proofs.unpacking.key_part.Goals as goal

@@ -5,10 +5,10 @@ use Rattle.std.proofs.lemmas.List.Elements.{All-rest}
 use Rattle.gds_block.specs.Block.{level_of, used_of}
 use Rattle.gds_block.specs.Record.{records_of, StandsIn}
 use Rattle.gds_block.specs.View.{record_of}
-use Rattle.gds_pack.specs.Item.{Item}
-use Rattle.gds_pack.specs.Key.{HasOpenFronts}
+use Rattle.gds_block.specs.Item.{Item}
+use Rattle.m_key.specs.KeyEnd.{HasOpenFronts}
 use Rattle.gds_pack.specs.Packed.{key_behind}
-use Rattle.gds_pack.specs.Seen.{item, items}
+use Rattle.gds_pack.specs.Entry.{item, items}
 use Rattle.gds_pack.specs.Unpacked.{is_star, read_record, end_of, read_records}
 use Rattle.gds_pack.proofs.SizeLaws.{key_behind-append}
 use Rattle.gds_pack.proofs.UnpackLaws.{said, entries_of-stops, so_far-next, entries_of-all, entries_of-short, HasOpenFronts-read}

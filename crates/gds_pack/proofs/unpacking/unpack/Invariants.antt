@@ -2,9 +2,9 @@ use Rattle.std.proofs.Common.{◌≡◌, ◌++◌, []}
 use Rattle.std.specs.Prelude.{All, option_map}
 use Rattle.gds_block.specs.Block.{level_of, used_of}
 use Rattle.gds_block.specs.Record.{records_of, StandsIn}
-use Rattle.gds_pack.specs.Key.{HasOpenFronts}
+use Rattle.m_key.specs.KeyEnd.{HasOpenFronts}
 use Rattle.gds_pack.specs.Packed.{key_behind}
-use Rattle.gds_pack.specs.Seen.{items}
+use Rattle.gds_pack.specs.Entry.{items}
 use Rattle.gds_pack.specs.Unpacked.{end_of, read_records}
 use Rattle.gds_pack.proofs.unpacking.unpack.Given as goal
 

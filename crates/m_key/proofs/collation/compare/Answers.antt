@@ -2,7 +2,7 @@ use Rattle.std.proofs.Common.{sym, ap₂, ◌∙◌, nat_cmp}
 use Rattle.std.specs.Cmp.Lexicographic.{slice_cmp}
 use Rattle.std.specs.Ordering.{on}
 use Rattle.m_key.specs.Collation.{subscript_cmp, reference_cmp}
-use Rattle.m_key.specs.Seen.{node_subscript_of, subscript_list}
+use Rattle.m_key.specs.Reference.{node_subscript_of, subscript_list}
 use Rattle.m_key.proofs.CollationLemmas.{then_decided, then_next, slice_cmp-map}
 use Rattle.m_key.proofs.collation.compare.Goals as goal
 

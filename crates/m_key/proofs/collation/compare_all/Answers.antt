@@ -1,7 +1,7 @@
 use Rattle.std.proofs.Common.{sym, ◌∙◌, arith}
 use Rattle.std.specs.Ordering.{on}
 use Rattle.m_key.specs.Collation.{subscript_cmp}
-use Rattle.m_key.specs.Seen.{node_subscript_of}
+use Rattle.m_key.specs.Reference.{node_subscript_of}
 use Rattle.m_key.proofs.CollationLemmas.{slice_cmp-end}
 use Rattle.m_key.proofs.collation.compare_all.Goals as goal
 

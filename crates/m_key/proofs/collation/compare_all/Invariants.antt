@@ -2,7 +2,7 @@ use Rattle.std.proofs.Common.{◌≡◌, drop}
 use Rattle.std.specs.Cmp.Lexicographic.{slice_cmp}
 use Rattle.std.specs.Ordering.{on}
 use Rattle.m_key.specs.Collation.{subscript_cmp}
-use Rattle.m_key.specs.Seen.{node_subscript_of}
+use Rattle.m_key.specs.Reference.{node_subscript_of}
 use Rattle.m_key.proofs.collation.compare_all.Given as goal
 
 -- what is left decides

@@ -1,6 +1,6 @@
 use Rattle.std.proofs.Common.{sym, ap, ap₂, ◌∙◌, nat_cmp, if◌then◌else◌}
 use Rattle.m_number.specs.Order.{number_cmp, size_cmp}
-use Rattle.m_number.specs.Seen.{numeral_of}
+use Rattle.m_number.specs.Number.{numeral_of}
 use Rattle.m_key.proofs.CollationLemmas.{then_decided, then_next}
 use Rattle.m_key.proofs.collation.compare_numbers.Goals as goal
 

@@ -1,6 +1,6 @@
 use Rattle.std.proofs.Common.{◌≤◌, ◌∙◌, arith, length, take_all}
 use Rattle.m_key.specs.Key.{key_bytes}
-use Rattle.m_key.specs.Seen.{node_of}
+use Rattle.m_key.specs.Reference.{node_of}
 use Rattle.m_key.proofs.keys.key_of.Goals as goal
 
 pub returns-clause-ok : goal.returns-clause-ok

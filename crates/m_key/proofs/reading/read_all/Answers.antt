@@ -2,7 +2,7 @@ use Rattle.std.proofs.Common.{◌≡◌, length, sym, ap, ◌∙◌, arith, map}
 use Rattle.std.specs.Prelude.{slice_index}
 use Rattle.std.proofs.lemmas.Bool.{iff_false}
 use Rattle.std.proofs.lemmas.List.{length-map}
-use Rattle.m_key.specs.Seen.{node_subscript_of}
+use Rattle.m_key.specs.Reference.{node_subscript_of}
 use Rattle.m_key.proofs.ReadingLemmas.{left, none_ended, none_at_zero, none_past_31, none_read}
 use Rattle.m_key.proofs.reading.read_all.Goals as goal
 use Rattle.m_key.proofs.reading.read_all.Goals.{then-end-eq0-via-then-end-eq0, then-end-eq0-via-else-end-eq0+then-len-eq-MOST}

@@ -1,6 +1,6 @@
 use Rattle.std.proofs.Common.{◌≡◌, ◌≤◌, ◌++◌, length, map, flat_map, vec_len}
 use Rattle.m_key.specs.Key.{ended}
-use Rattle.m_key.specs.Seen.{node_subscript_of}
+use Rattle.m_key.specs.Reference.{node_subscript_of}
 use Rattle.m_key.proofs.reading.read_all.Given as goal
 
 -- the subscripts so far and what is left are all

@@ -2,7 +2,7 @@ use Rattle.std.proofs.Common.{◌+◌, ◌∙◌, sym, subst, map}
 use Rattle.std.proofs.lemmas.Bool.{false≢true}
 use Rattle.std.proofs.lemmas.List.{take_rest}
 use Rattle.m_key.specs.Node.{IsName}
-use Rattle.m_key.specs.Seen.{name_bytes, node_subscript_of, subscript_list}
+use Rattle.m_key.specs.Reference.{name_bytes, node_subscript_of, subscript_list}
 use Rattle.m_key.proofs.ReadingLemmas.{name_front, key_made}
 use Rattle.m_key.proofs.reading.reference_of.Goals as goal
 

@@ -1,5 +1,5 @@
 use Rattle.std.proofs.Common.{◌≡◌, ◌∷◌, ◌++◌, length, take, map, flat_map}
-use Rattle.m_key.specs.Seen.{node_subscript_of}
+use Rattle.m_key.specs.Reference.{node_subscript_of}
 use Rattle.m_text.specs.Written.{subscript_text}
 use Rattle.m_text.proofs.printing.push_others.Given as goal
 

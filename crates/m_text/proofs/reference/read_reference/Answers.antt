@@ -1,6 +1,6 @@
 use Rattle.std.proofs.Common.{◌<◌, List, ℕ, length, map, sym, ap, ◌∙◌, subst, arith}
 use Rattle.m_key.specs.Node.{NodeSubscript}
-use Rattle.m_key.specs.Seen.{node_subscript_of, node_of, is_node, name_bytes}
+use Rattle.m_key.specs.Reference.{node_subscript_of, node_of, is_node, name_bytes}
 use Rattle.m_key.specs.declared.reference.Reference.{Reference}
 use Rattle.m_text.specs.Standing.{ListStandsAt}
 use Rattle.m_text.proofs.Fronts.{front_taken}

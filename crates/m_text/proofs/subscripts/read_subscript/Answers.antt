@@ -2,8 +2,8 @@ use Rattle.std.proofs.Common.{◌≡◌, List, ℕ, length, Some, sym, ap, ◌�
 use Rattle.std.specs.List.{prefix_len}
 use Rattle.std.proofs.lemmas.List.{take_rest}
 use Rattle.std.proofs.lemmas.Bool.{eqb-true}
-use Rattle.m_number.specs.Seen.{numeral_of}
-use Rattle.m_key.specs.Seen.{node_subscript_of}
+use Rattle.m_number.specs.Number.{numeral_of}
+use Rattle.m_key.specs.Reference.{node_subscript_of}
 use Rattle.m_key.specs.Node.{spelled}
 use Rattle.m_text.specs.Reading.{string_at, is_number_byte}
 use Rattle.m_text.proofs.Values.{string_whole}

@@ -1,7 +1,7 @@
 use Rattle.std.proofs.Common.{◌≡◌, ◌+◌, ◌≤◌, ◌++◌, ◌∷◌, [], List, ℕ, map, sym, ap, ◌∙◌, subst, arith}
 use Rattle.std.proofs.lemmas.List.{append_assoc, map_push}
 use Rattle.m_key.specs.Node.{NodeSubscript}
-use Rattle.m_key.specs.Seen.{node_subscript_of}
+use Rattle.m_key.specs.Reference.{node_subscript_of}
 use Rattle.m_text.specs.Standing.{StandsAt, ListStandsAt}
 use Rattle.m_text.proofs.Fronts.{front_taken, no_front}
 use Rattle.m_text.proofs.SubscriptLemmas.{list_last, list_more, goes_step, goes_end, goes_stuck, goes_none, goes_full}

@@ -1,7 +1,7 @@
 use Rattle.std.proofs.Common.{◌≡◌, ◌≤◌, ◌++◌, List, ℕ, length, map, vec_len}
 use Rattle.std.specs.List.{AllByRecursion}
 use Rattle.m_key.specs.Node.{NodeSubscript, IsSubscript}
-use Rattle.m_key.specs.Seen.{node_subscript_of}
+use Rattle.m_key.specs.Reference.{node_subscript_of}
 use Rattle.m_text.specs.Standing.{ListStandsAt, GoesOn}
 use Rattle.m_text.proofs.subscripts.read_subscripts.Given as goal
 

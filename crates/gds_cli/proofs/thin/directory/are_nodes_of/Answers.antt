@@ -1,6 +1,6 @@
 use Rattle.std.proofs.Common.{◌≡◌, ◌<◌, ◌∙◌, map, length, get_or, subst, sym, ap}
 use Rattle.std.proofs.lemmas.List.{get_or-map, length-map}
-use Rattle.m_key.specs.Seen.{name_bytes}
+use Rattle.m_key.specs.Reference.{name_bytes}
 use Rattle.gds_cli.specs.LeafSeen.{valued}
 use Rattle.gds_cli.specs.Reading.{IsNodeOf}
 use Rattle.gds_cli.proofs.ThinTrees.{all_at}

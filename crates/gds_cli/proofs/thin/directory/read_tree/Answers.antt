@@ -3,7 +3,7 @@ use Rattle.gds_cli.specs.declared.thin.leaf.LeafNode.{LeafNode}
 use Rattle.gds_cli.specs.Thin.{root_of}
 use Rattle.gds_cli.specs.LeafSeen.{valued}
 use Rattle.gds_cli.specs.Reading.{AreNodesOf}
-use Rattle.m_key.specs.Seen.{name_bytes}
+use Rattle.m_key.specs.Reference.{name_bytes}
 use Rattle.gds_cli.proofs.ThinTrees.{number_within, global_star, global_of, is_tree, global_leaf, no_global}
 use Rattle.gds_cli.proofs.thin.directory.read_tree.Goals as goal
 

@@ -1,6 +1,6 @@
 use Rattle.std.proofs.Common.{◌≡◌, ◌<◌, ◌∙◌, [], length, map, get_or, refl, sym, ap, subst, rules}
 use Rattle.std.proofs.lemmas.List.{get_or-map, length-map}
-use Rattle.host_model.proofs.FaultLemmas.{NeverFell-trans}
+use Rattle.host_model.proofs.FailureLemmas.{NeverFell-trans}
 use Rattle.gds_cli.specs.Thin.{Valued, IsGlobal}
 use Rattle.gds_cli.specs.LeafSeen.{valued}
 use Rattle.gds_cli.proofs.ThinSaying.{zip_at}
@@ -11,7 +11,7 @@ pub loop-entry-init : goal.loop-entry-init
 loop-entry-init g c = record {
   trees = λ x tells head. rw c.new-trees.ensures.items (trees_none x.db);
   told = refl;
-  faults = search rules;
+  failures = search rules;
 }
 
 pub returns-in_default-clause-none : goal.returns-in_default-clause-none
@@ -34,5 +34,5 @@ loop-entry-preserved g c = record {
       (map_more valued c.args.entries.now c.loop-entry.entry-index c.entry-item.result c.loop-entry-test.true c.entry-item.is)
       c.in_ok-push.ensures.items here.0 here.1.1;
   told = c.in_ok-tree.ensures.told ∙ c.loop-entry.invariant.told;
-  faults = NeverFell-trans _ _ _ c.loop-entry.invariant.faults c.in_ok-tree.ensures.faults;
+  failures = NeverFell-trans _ _ _ c.loop-entry.invariant.failures c.in_ok-tree.ensures.failures;
 }

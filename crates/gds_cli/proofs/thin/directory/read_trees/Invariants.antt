@@ -1,6 +1,6 @@
 use Rattle.std.proofs.Common.{◌≡◌, map, take}
 use Rattle.std.specs.Option.{ForSome}
-use Rattle.host_model.specs.Faults.{NeverFell}
+use Rattle.host_model.specs.Failures.{NeverFell}
 use Rattle.gds_cli.specs.LeafSeen.{valued}
 use Rattle.gds_cli.specs.Reading.{IsHeaderOf, AreTrees}
 use Rattle.gds_cli.proofs.thin.directory.read_trees.Given as goal
@@ -11,5 +11,5 @@ invariant-loop-entry g l = record {
   trees : ForSome (g.H.Host.told l.fn.host) (λ c. IsHeaderOf l.header c.db
       → AreTrees c.db (map valued (take l.entry-index l.entries)) l.trees.items);
   told : g.H.Host.told l.host ≡ g.H.Host.told l.fn.host;
-  faults : NeverFell (g.H.Host.faults l.fn.host) (g.H.Host.faults l.host);
+  failures : NeverFell (g.H.Host.failures l.fn.host) (g.H.Host.failures l.host);
 }

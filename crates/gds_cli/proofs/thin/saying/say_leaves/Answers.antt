@@ -1,7 +1,7 @@
 use Rattle.std.proofs.Common.{◌<◌, ◌≤◌, ◌∙◌, [], length, get_or, flat_map, Some, refl, ap, take_all, arith}
 use Rattle.std.proofs.lemmas.Result.{err_from_is_err_and}
 use Rattle.host_model.specs.Files.{saying}
-use Rattle.host_model.proofs.FaultLemmas.{NeverFell-trans}
+use Rattle.host_model.proofs.FailureLemmas.{NeverFell-trans}
 use Rattle.m_text.specs.Extract.{zwr_node}
 use Rattle.gds_cli.specs.Reading.{IsLeafAt}
 use Rattle.gds_cli.proofs.ThinSaying.{on_break, front_line, said_line, zip_at, zip_length, get_or_same}
@@ -36,7 +36,7 @@ loop-leaf-preserved g c = record {
       said_line (flat_map zwr_node) x _ globals i vs (flat_map zwr_node vs) within (get_or_same globals i within) refl
       (c.in_ok-say_leaf.ensures.said _ (c.loop-leaf.invariant.said x tells globals head all) vs head
       (zip_at (IsLeafAt c.args.header.now x.db) c.args.leaves.now globals i 0 [] all c.loop-leaf-test.true));
-  faults = NeverFell-trans _ _ _ c.loop-leaf.invariant.faults c.in_ok-say_leaf.ensures.faults;
+  failures = NeverFell-trans _ _ _ c.loop-leaf.invariant.failures c.in_ok-say_leaf.ensures.failures;
 }
 
 pub returns-clause-said : goal.returns-clause-said

@@ -2,7 +2,7 @@ use Rattle.std.proofs.Common.{◌≡◌, Some, List, flat_map, take}
 use Rattle.std.specs.Option.{ForSome}
 use Rattle.std.specs.List.{AllZip}
 use Rattle.host_model.specs.Files.{saying}
-use Rattle.host_model.specs.Faults.{NeverFell}
+use Rattle.host_model.specs.Failures.{NeverFell}
 use Rattle.m_text.specs.Extract.{zwr_node}
 use Rattle.gds_cli.specs.Thin.{Valued}
 use Rattle.gds_cli.specs.Reading.{IsHeaderOf, IsLeafAt}
@@ -14,5 +14,5 @@ invariant-loop-leaf g l = record {
   said : ForSome (g.H.Host.told l.fn.host) (λ c. (globals : List (List Valued)) → IsHeaderOf l.header c.db
       → AllZip (IsLeafAt l.header c.db) l.leaves globals
       → g.H.Host.told l.host ≡ Some (saying c (flat_map (flat_map zwr_node) (take l.leaf-index globals))));
-  faults : NeverFell (g.H.Host.faults l.fn.host) (g.H.Host.faults l.host);
+  failures : NeverFell (g.H.Host.failures l.fn.host) (g.H.Host.failures l.host);
 }

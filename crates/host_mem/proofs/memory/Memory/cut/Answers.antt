@@ -1,6 +1,6 @@
 use Rattle.std.proofs.Common.{◌≡◌, ◌∙◌, OnErr, ap, refl, sym, subst}
 use Rattle.host_model.specs.Disk.{Changes, Cut, Cuts, Elapses, Follows}
-use Rattle.host_model.specs.Faults.{counted}
+use Rattle.host_model.specs.Failures.{counted}
 use Rattle.host_mem.specs.Inside.{seen}
 use Rattle.host_mem.specs.Memory.{Memory, contents_of, left_since}
 use Rattle.host_mem.proofs.CallLemmas.{cut_crash, cut_effect, cut_numbered, cut_time, cut_told, cuts_so, unchanged}

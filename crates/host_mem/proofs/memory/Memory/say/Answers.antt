@@ -1,6 +1,6 @@
 use Rattle.std.proofs.Common.{◌≡◌, ◌∙◌, OnErr, ap, refl, sym, subst}
 use Rattle.host_model.specs.Disk.{Elapses, Follows, SaysSome, during}
-use Rattle.host_model.specs.Faults.{counted}
+use Rattle.host_model.specs.Failures.{counted}
 use Rattle.host_model.specs.Files.{Says}
 use Rattle.host_mem.specs.Inside.{seen}
 use Rattle.host_mem.specs.Memory.{Memory, contents_of, left_since}

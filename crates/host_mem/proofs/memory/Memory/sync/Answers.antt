@@ -1,6 +1,6 @@
 use Rattle.std.proofs.Common.{◌≡◌, ◌∙◌, OnOk, refl, sym, subst}
 use Rattle.host_model.specs.Disk.{Elapses, Settles, Stays}
-use Rattle.host_model.specs.Faults.{counted}
+use Rattle.host_model.specs.Failures.{counted}
 use Rattle.host_model.specs.Files.{file_of}
 use Rattle.host_mem.specs.Inside.{seen}
 use Rattle.host_mem.specs.Memory.{Memory, contents_of, left_since}

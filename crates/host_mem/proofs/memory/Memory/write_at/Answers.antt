@@ -1,6 +1,6 @@
 use Rattle.std.proofs.Common.{◌≡◌, ◌∙◌, length, OnErr, ap, refl, sym, subst}
 use Rattle.host_model.specs.Disk.{Changes, Elapses, Follows, Torn, Writes}
-use Rattle.host_model.specs.Faults.{counted}
+use Rattle.host_model.specs.Failures.{counted}
 use Rattle.host_mem.specs.Inside.{seen}
 use Rattle.host_mem.specs.Memory.{Memory, contents_of, left_since}
 use Rattle.host_mem.proofs.CallLemmas.{unchanged, write_crash, write_effect, write_numbered, write_time, write_told, writes}

@@ -2,7 +2,7 @@ use Rattle.std.proofs.Common.{ℕ, ◌+◌, ◌*◌, ◌≤◌, [], length}
 use Rattle.std.specs.Prelude.{All, map}
 use Rattle.gds_block.specs.Record.{AreRecords, StandsIn, bytes_left, records_of}
 use Rattle.gds_law.specs.Block.{children_from, fault_at, kinds_from}
-use Rattle.gds_pack.specs.Key.{HasOpenFronts}
+use Rattle.m_key.specs.KeyEnd.{HasOpenFronts}
 use Rattle.integ_block.specs.Reading.{reading}
 use Rattle.integ_block.specs.Seen.{seen_child}
 use Rattle.integ_block.proofs.Reached.{Reached}

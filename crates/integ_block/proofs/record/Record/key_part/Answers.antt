@@ -1,5 +1,5 @@
 use Rattle.std.proofs.Common.{◌≡◌, ◌∙◌, None, ap, arith}
-use Rattle.gds_pack.specs.Key.{end_in}
+use Rattle.m_key.specs.KeyEnd.{end_in}
 use Rattle.gds_law.specs.Reading.{key_end}
 use Rattle.integ_block.specs.Entry.{seen}
 use Rattle.integ_block.specs.Reading.{reading}

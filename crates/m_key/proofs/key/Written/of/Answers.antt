@@ -1,5 +1,5 @@
 use Rattle.std.proofs.Common.{refl, ap, map}
-use Rattle.m_key.specs.Seen.{node_subscript_of, node_of}
+use Rattle.m_key.specs.Reference.{node_subscript_of, node_of}
 use Rattle.m_key.proofs.FillLemmas.{key_written}
 use Rattle.m_key.proofs.key.Written.of.Goals as goal
 

@@ -1,6 +1,6 @@
 use Rattle.std.proofs.Common.{◌∷◌, sym, ap, ◌∙◌, flat_map}
 use Rattle.m_key.specs.Key.{escaped, subscript_bytes}
-use Rattle.m_key.specs.Seen.{node_subscript_of}
+use Rattle.m_key.specs.Reference.{node_subscript_of}
 use Rattle.m_key.proofs.FillLemmas.{appends_more}
 use Rattle.m_key.proofs.key.Written.put_subscript.Goals as goal
 

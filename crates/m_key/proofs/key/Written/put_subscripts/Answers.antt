@@ -1,7 +1,7 @@
 use Rattle.std.proofs.Common.{◌++◌, take, refl, sym, ap, ◌∙◌, flat_map, take_all}
 use Rattle.m_key.specs.declared.subscript.Subscript.{Subscript}
 use Rattle.m_key.specs.Key.{ended}
-use Rattle.m_key.specs.Seen.{node_subscript_of}
+use Rattle.m_key.specs.Reference.{node_subscript_of}
 use Rattle.m_key.proofs.FillLemmas.{appends_none, appends_more, appends_same, flat_map_take, flat_map_map}
 use Rattle.m_key.proofs.key.Written.put_subscripts.Goals as goal
 

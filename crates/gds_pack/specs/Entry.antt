@@ -1,6 +1,6 @@
 -- What clauses see of an `Entry`.
 use Rattle.std.specs.Prelude.{List, map}
-use Rattle.gds_pack.specs.Item.{Item}
+use Rattle.gds_block.specs.Item.{Item}
 use Rattle.gds_pack.specs.declared.entry.Entry.{Entry}
 
 abbrev pub item : Entry → Item

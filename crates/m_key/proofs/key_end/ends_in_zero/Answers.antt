@@ -1,8 +1,8 @@
 use Rattle.std.proofs.Common.{◌≡◌, ◌-◌, length, Some, false, sym, arith}
 use Rattle.std.specs.Prelude.{slice_get}
 use Rattle.std.proofs.lemmas.Option.{slice_get_within}
-use Rattle.gds_pack.proofs.KeyLaws.{zero_after-last}
-use Rattle.gds_pack.proofs.unpacking.ends_in_zero.Goals as goal
+use Rattle.m_key.proofs.KeyEndLemmas.{zero_after-last}
+use Rattle.m_key.proofs.key_end.ends_in_zero.Goals as goal
 
 pub returns-in-Some : goal.returns-in-Some
 returns-in-Some c =

@@ -3,7 +3,7 @@ use Rattle.std.specs.Prelude.{ℕ, ◌≤◌, List, map}
 use Rattle.std.proofs.Common.{sym, ◌∙◌, subst}
 use Rattle.std.proofs.lemmas.List.{length-map}
 use Rattle.std.proofs.lemmas.List.Elements.{All-map}
-use Rattle.m_number.specs.Seen.{numeral_of}
+use Rattle.m_number.specs.Number.{numeral_of}
 use Rattle.m_key.specs.Node.{Node, NodeSubscript, number, string, IsSubscript, IsNode}
 use Rattle.m_key.specs.Globals.{Place}
 use Rattle.m_key.specs.declared.name.Name.{Name}

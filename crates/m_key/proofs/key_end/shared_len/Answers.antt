@@ -1,7 +1,7 @@
 use Rattle.std.proofs.Common.{arith}
-use Rattle.gds_pack.proofs.KeyLaws.{shared-past, shared-apart}
-use Rattle.gds_pack.proofs.entry.shared_len.Goals as goal
-use Rattle.gds_pack.proofs.entry.shared_len.Goals.{then-i-b-via-then-i-b, then-i-b-via-else-i-b+then-x-b}
+use Rattle.m_key.proofs.KeyEndLemmas.{shared-past, shared-apart}
+use Rattle.m_key.proofs.key_end.shared_len.Goals as goal
+use Rattle.m_key.proofs.key_end.shared_len.Goals.{then-i-b-via-then-i-b, then-i-b-via-else-i-b+then-x-b}
 
 pub returns-then-i-b : goal.returns-then-i-b
 returns-then-i-b c =

@@ -1,7 +1,7 @@
 use Rattle.std.proofs.Common.{◌≡◌, ◌+◌, drop}
 use Rattle.std.specs.Prelude.{option_map}
-use Rattle.gds_pack.specs.Key.{end_in}
-use Rattle.gds_pack.proofs.unpacking.end_in.Given as goal
+use Rattle.m_key.specs.KeyEnd.{end_in}
+use Rattle.m_key.proofs.key_end.end_in.Given as goal
 
 abbrev pub invariant-loop-i : goal.invariant-loop-i
 invariant-loop-i l = option_map (λ n. l.i + n) (end_in l.zero (drop l.i l.body)) ≡ end_in l.after_zero l.body

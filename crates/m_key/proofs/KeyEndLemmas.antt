@@ -9,7 +9,7 @@ use Rattle.std.proofs.lemmas.Bool.{eqb-true, ne_eqb, cases_lt}
 use Rattle.std.proofs.lemmas.Cmp.{nat_list_cmp_total, tied_itself}
 use Rattle.std.proofs.lemmas.List.{drop_all, take_all, take-append-drop}
 use Rattle.std.proofs.lemmas.List.Sums.{common_prefix_len-le, common_prefix_len-drop_no}
-use Rattle.gds_pack.specs.Key.{key_len, end_in, zero_after, IsKey, HasOpenFronts, shared}
+use Rattle.m_key.specs.KeyEnd.{key_len, end_in, zero_after, IsKey, HasOpenFronts, shared}
 
 -- ---- the shared bytes
 
