@@ -3,3 +3,5 @@ pub mod Told
 pub mod Files
 pub mod Disk
 pub mod Moments
+pub mod Units
+pub mod Frames

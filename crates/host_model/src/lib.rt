@@ -4,7 +4,9 @@
 mod host;
 mod order;
 mod source;
+mod units;
 
 pub use host::{FileNo, Host, HostFailed};
 pub use order::{store, store_and_tell};
 pub use source::{Source, SourceFailed};
+pub use units::{UnitSource, UnitTrouble};
