@@ -5,8 +5,8 @@ use Rattle.std.proofs.lemmas.Cmp.{nat_cmp_total}
 use Rattle.gds_header.specs.declared.kind.HeaderKind.{HeaderKind}
 use Rattle.gds_header.specs.Kinds.{ending_kind}
 use Rattle.gds_law.specs.Visit.{Visit, directory_root}
-use Rattle.gds_law.specs.Seen.{Told}
-use Rattle.gds_law.specs.Path.{Steps, visit_at, path_cmp, front_of, GoesOn, IsTakenBefore, IsKept, AreKept, IsReached, AreReached}
+use Rattle.gds_law.specs.Fault.{Told}
+use Rattle.gds_law.specs.Path.{Steps, visit_at, path_cmp, front_of, ExtendsKept, IsTakenBefore, IsKept, AreKept, IsReached, AreReached}
 use Rattle.gds_law.specs.Tree.{tree_faults}
 use Rattle.gds_law.specs.Maps.{is_used, map_faults, count_faults}
 use Rattle.gds_law.specs.Faults.{faults_of_header, AreFaultsRead, AreFaultsAfter, HasOneReading, HasOneFaultList}
@@ -34,11 +34,11 @@ decide_less Greater = inr (λ e. cc)
 
 module _ (image : List ℕ) where
   -- whether a path goes on from a kept one
-  decide_on : (kept : List Steps) (path : Steps) → Decided ((v : Visit) × GoesOn image kept path v)
+  decide_on : (kept : List Steps) (path : Steps) → Decided ((v : Visit) × ExtendsKept image kept path v)
   decide_on kept [] = inr (λ h. absurd (omega (arith, h.1.longer)))
   decide_on kept (s ∷ path) = by (visit_at image (s ∷ path)) refl (decide_contains kept (front_of (s ∷ path)))
     where
-      by : (o : Option Visit) → visit_at image (s ∷ path) ≡ o → Decided (Contains kept (front_of (s ∷ path))) → Decided ((v : Visit) × GoesOn image kept (s ∷ path) v)
+      by : (o : Option Visit) → visit_at image (s ∷ path) ≡ o → Decided (Contains kept (front_of (s ∷ path))) → Decided ((v : Visit) × ExtendsKept image kept (s ∷ path) v)
       by None e d = inr (λ h. absurd (cc (h.1.leads, e)))
       by (Some v) e (inl c) = inl (v, record { longer = omega arith; front = c; leads = e })
       by (Some v) e (inr n) = inr (λ h. n h.1.front)
@@ -76,14 +76,14 @@ module _ (image : List ℕ) where
   decide_kept : (kept : List Steps) (path : Steps) → Decided (IsKept image kept path)
   decide_kept kept path = by (decide_path path []) (decide_on kept path)
     where
-      goes : (v : Visit) → GoesOn image kept path v → (path ≡ [] → ⊥) → Decided (IsTakenBefore image kept path v.block) → Decided (IsKept image kept path)
+      goes : (v : Visit) → ExtendsKept image kept path v → (path ≡ [] → ⊥) → Decided (IsTakenBefore image kept path v.block) → Decided (IsKept image kept path)
       goes v g n (inr free) = inl (inr (v, g, free))
       goes v g n (inl t) = inr (λ h. elim h [
         | inl e ↦ n e
         | inr k ↦ let same : k.0 ≡ v = cc (k.1.leads, g.leads) in k.2 (subst (λ (w : Visit). IsTakenBefore image kept path w.block) (sym same) t)
       ])
 
-      by : Decided (path ≡ []) → Decided ((v : Visit) × GoesOn image kept path v) → Decided (IsKept image kept path)
+      by : Decided (path ≡ []) → Decided ((v : Visit) × ExtendsKept image kept path v) → Decided (IsKept image kept path)
       by (inl e) d = inl (inl e)
       by (inr n) (inl h) = goes h.0 h.1 n (decide_taken kept path h.0.block)
       by (inr n) (inr m) = inr (λ h. elim h [ inl e ↦ n e | inr k ↦ m (k.0, k.1) ])
@@ -91,13 +91,13 @@ module _ (image : List ℕ) where
   decide_reached : (kept : List Steps) (path : Steps) → Decided (IsReached image kept path)
   decide_reached kept path = by (decide_path path []) (decide_on kept path)
     where
-      by : Decided (path ≡ []) → Decided ((v : Visit) × GoesOn image kept path v) → Decided (IsReached image kept path)
+      by : Decided (path ≡ []) → Decided ((v : Visit) × ExtendsKept image kept path v) → Decided (IsReached image kept path)
       by (inl e) d = inl (inl e)
       by (inr n) (inl h) = inl (inr h)
       by (inr n) (inr m) = inr (λ h. elim h [ inl e ↦ n e | inr k ↦ m k ])
 
   -- The rule asks of the list no more than which earlier paths it has.
-  on_local : (xs ys : List Steps) (path : Steps) (v : Visit) → AgreeBelow path_cmp xs ys path → GoesOn image xs path v → GoesOn image ys path v
+  on_local : (xs ys : List Steps) (path : Steps) (v : Visit) → AgreeBelow path_cmp xs ys path → ExtendsKept image xs path v → ExtendsKept image ys path v
   on_local xs ys path v a g = record {
     longer = g.longer;
     front = Contains-from_in ys (front_of path) (a.there (front_of path) (front_below path g.longer) (in_from_Contains xs (front_of path) g.front));

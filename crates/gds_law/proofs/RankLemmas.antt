@@ -7,7 +7,7 @@ use Rattle.gds_header.specs.Kinds.{through_first}
 use Rattle.gds_block.specs.Record.{Record, records_of}
 use Rattle.gds_law.specs.Kinds.{ends, head_kinds}
 use Rattle.gds_law.specs.Visit.{TreeRole, directory, global, Visit, Child}
-use Rattle.gds_law.specs.Reading.{Reading, Seen, reading_of, has_values, is_last, pointer_of, key_of}
+use Rattle.gds_law.specs.BlockReading.{BlockReading, PlacedRecord, reading_of, has_values, is_last, pointer_of, key_of}
 use Rattle.gds_law.specs.Record.{target_of, is_ended, child_to, child_of, is_sound}
 use Rattle.gds_law.specs.Block.{is_wrong_level, head_holds, kinds_of_head, children_from, children_of}
 use Rattle.gds_law.specs.declared.kind.FaultKind.{FaultKind}
@@ -40,17 +40,17 @@ no_value true values short x y p h e = absurd (cc)
 no_value false true short x y p h e = absurd (cc)
 no_value false false short x y p h e = refl
 
-no_values : (b : Reading) (s : Seen) (p : ℕ) → (b.level == 0) ≡ true → pointer_of b s ≡ Some p → has_values b b.visit.role ≡ false
+no_values : (b : BlockReading) (s : PlacedRecord) (p : ℕ) → (b.level == 0) ≡ true → pointer_of b s ≡ Some p → has_values b b.visit.role ≡ false
 no_values b s p z h =
     let e = eqb-true b.level 0 z in
     no_value (is_last b s) (has_values b b.visit.role) _ _ _ p h (and_left _ _ (le-ltb 0 b.level (omega arith)))
 
-leaps : (b : Reading) (role : TreeRole) (due : Option ℕ) → (b.level == 0) ≡ true → has_values b role ≡ false → 7 < rank_of role due
+leaps : (b : BlockReading) (role : TreeRole) (due : Option ℕ) → (b.level == 0) ≡ true → has_values b role ≡ false → 7 < rank_of role due
 leaps b directory None z h = omega arith
 leaps b directory (Some due) z h = omega arith
 leaps b (global name) due z h = absurd (cc)
 
-target_falls : (b : Reading) (s : Seen) (p : ℕ) → is_wrong_level b.visit.level b.level ≡ false → pointer_of b s ≡ Some p → rank (target_of b s p) < rank b.visit
+target_falls : (b : BlockReading) (s : PlacedRecord) (p : ℕ) → is_wrong_level b.visit.level b.level ≡ false → pointer_of b s ≡ Some p → rank (target_of b s p) < rank b.visit
 unfolding target_of
 target_falls b s p right h =
     cond_both (b.level == 0) _ _ (λ (w : Visit). rank w < rank b.visit)
@@ -66,7 +66,7 @@ in_if : {A : Type 0} (t : Bool) (xs : List A) (x : A) → IsIn (if t then xs els
 in_if true xs x i = i
 in_if false xs x i = absurd i
 
-child_falls : (b : Reading) (s : Seen) (c : Child) → is_wrong_level b.visit.level b.level ≡ false → IsIn (child_of b s) c → rank c.visit < rank b.visit
+child_falls : (b : BlockReading) (s : PlacedRecord) (c : Child) → is_wrong_level b.visit.level b.level ≡ false → IsIn (child_of b s) c → rank c.visit < rank b.visit
 child_falls b s c right i = by (pointer_of b s) refl i
   where
     by : (o : Option ℕ) → pointer_of b s ≡ o → IsIn (child_to b s o) c → rank c.visit < rank b.visit
@@ -77,10 +77,10 @@ child_falls b s c right i = by (pointer_of b s) refl i
           | inr k ↦ absurd k
         ]
 
-children_fall : (b : Reading) (previous : List ℕ) (rs : List Record) (c : Child) → is_wrong_level b.visit.level b.level ≡ false → IsIn (children_from b previous rs) c → rank c.visit < rank b.visit
+children_fall : (b : BlockReading) (previous : List ℕ) (rs : List Record) (c : Child) → is_wrong_level b.visit.level b.level ≡ false → IsIn (children_from b previous rs) c → rank c.visit < rank b.visit
 children_fall b previous [] c right i = absurd i
 children_fall b previous (r ∷ rs) c right i =
-    let s : Seen = record { previous = previous; record_ = r } in
+    let s : PlacedRecord = record { previous = previous; record_ = r } in
     let j = in_unless (is_ended b s) (child_of b s ++ children_from b (key_of b s) rs) c i in
     elim (in_either (child_of b s) (children_from b (key_of b s) rs) c j.1) [
       | inl k ↦ child_falls b s c right k
@@ -107,19 +107,19 @@ none_there {A} test there (y ∷ ys) x h e i = by (there y) refl h i (none_there
     by true f k (inr j) next = next (or_parts (test y) (list_any test (filter there ys)) k).1 e j
     by false f k (inr j) next = next k e j
 
-right_level : (b : Reading) (bytes : List ℕ) (kinds : List FaultKind) → IsIn kinds WrongLevel → list_any ends (through_first ends (filter (head_holds b bytes) kinds)) ≡ false → is_wrong_level b.visit.level b.level ≡ false
+right_level : (b : BlockReading) (bytes : List ℕ) (kinds : List FaultKind) → IsIn kinds WrongLevel → list_any ends (through_first ends (filter (head_holds b bytes) kinds)) ≡ false → is_wrong_level b.visit.level b.level ≡ false
 right_level b bytes kinds i h = none_there ends (head_holds b bytes) kinds WrongLevel (sym (through_any ends (filter (head_holds b bytes) kinds)) ∙ h) refl i
 
 is_asked : IsIn head_kinds WrongLevel
 is_asked = inr (inr (inr (inr (inr (inl refl)))))
 
-head_right : (b : Reading) (bytes : List ℕ) → list_any ends (kinds_of_head b bytes) ≡ false → is_wrong_level b.visit.level b.level ≡ false
+head_right : (b : BlockReading) (bytes : List ℕ) → list_any ends (kinds_of_head b bytes) ≡ false → is_wrong_level b.visit.level b.level ≡ false
 unfolding kinds_of_head
 head_right b bytes h = right_level b bytes head_kinds is_asked h
 
 pub falls : (h : Header) (v : Visit) (bytes : List ℕ) (c : Child) → IsIn (children_of h v bytes) c → rank c.visit < rank v
 unfolding children_of
 falls h v bytes c i =
-    let b : Reading = reading_of h v bytes in
+    let b : BlockReading = reading_of h v bytes in
     let j = in_unless (list_any ends (kinds_of_head b bytes)) (children_from b [] (records_of bytes)) c i in
     children_fall b [] (records_of bytes) c (head_right b bytes j.0) j.1

@@ -13,7 +13,7 @@ use Rattle.gds_block.specs.Record as block
 use Rattle.gds_block.specs.Block.{level_of}
 use Rattle.gds_law.specs.Kinds.{ends, head_kinds, record_kinds}
 use Rattle.gds_law.specs.Visit.{directory, global, Visit, Child}
-use Rattle.gds_law.specs.Reading.{Reading, Seen, reading_of, has_values, points, is_last, pointer_of, key_of, rest_of, size_of}
+use Rattle.gds_law.specs.BlockReading.{BlockReading, PlacedRecord, reading_of, has_values, points, is_last, pointer_of, key_of, rest_of, size_of}
 use Rattle.gds_law.specs.Record.{holds, kinds_of, target_of, is_ended, child_to, child_of, is_sound}
 use Rattle.gds_law.specs.Block.{is_wrong_level, head_holds, kinds_of_head, kinds_from, kinds_of_block, children_from, children_of}
 use Rattle.gds_law.specs.Path.{children_at, child_at}
@@ -57,33 +57,33 @@ nil_filter {A} test (y ∷ ys) h = rw (h y (inl refl)) (nil_filter test ys (λ x
 
 -- ---- a record with which nothing is wrong
 
-abbrev pub seen : List ℕ → Record → Seen
+abbrev pub seen : List ℕ → Record → PlacedRecord
 seen previous r = record { previous = previous; record_ = r }
 
-pub record IsCleanRecord (b : Reading) (s : Seen) : Type 0 where
+pub record IsCleanRecord (b : BlockReading) (s : PlacedRecord) : Type 0 where
   pub none : (kind : FaultKind) → IsIn record_kinds kind → holds b s kind ≡ false
   pub goes_on : is_ended b s ≡ false
 
-clean_record : (b : Reading) (s : Seen) → kinds_of b s ≡ [] → IsCleanRecord b s
+clean_record : (b : BlockReading) (s : PlacedRecord) → kinds_of b s ≡ [] → IsCleanRecord b s
 unfolding kinds_of is_ended
 clean_record b s h = record {
   none = filter_nil (holds b s) record_kinds (through_nil ends (filter (holds b s) record_kinds) h);
   goes_on = ap (list_any ends) h;
 }
 
-abbrev pub CleanRecords : Reading → List ℕ → List Record → Type 0
+abbrev pub CleanRecords : BlockReading → List ℕ → List Record → Type 0
 CleanRecords b previous [] = ⊤
 CleanRecords b previous (r ∷ rs) = IsCleanRecord b (seen previous r) × CleanRecords b (key_of b (seen previous r)) rs
 
-clean_records : (b : Reading) (bytes : List ℕ) (at : ℕ) (previous : List ℕ) (rs : List Record) → kinds_from b bytes at previous rs ≡ [] → CleanRecords b previous rs
+clean_records : (b : BlockReading) (bytes : List ℕ) (at : ℕ) (previous : List ℕ) (rs : List Record) → kinds_from b bytes at previous rs ≡ [] → CleanRecords b previous rs
 clean_records b bytes at previous [] h = tt
 clean_records b bytes at previous (r ∷ rs) h =
-    let s : Seen = seen previous r in
+    let s : PlacedRecord = seen previous r in
     let parts = nil_parts (map (λ kind. (r.offset, kind)) (kinds_of b s)) _ h in
     let c = clean_record b s (map_nil (λ (kind : FaultKind). (r.offset, kind)) (kinds_of b s) parts.0) in
     (c, clean_records b bytes (r.offset + size_of s) (key_of b s) rs (sym (cond-false (is_ended b s) [] _ c.goes_on) ∙ parts.1))
 
-pub record IsCleanBlock (b : Reading) (bytes : List ℕ) : Type 0 where
+pub record IsCleanBlock (b : BlockReading) (bytes : List ℕ) : Type 0 where
   pub head : list_any ends (kinds_of_head b bytes) ≡ false
   pub level : is_wrong_level b.visit.level b.level ≡ false
   pub records : CleanRecords b [] (records_of bytes)
@@ -91,12 +91,12 @@ pub record IsCleanBlock (b : Reading) (bytes : List ℕ) : Type 0 where
 is_asked : IsIn head_kinds WrongLevel
 is_asked = inr (inr (inr (inr (inr (inl refl)))))
 
-head_level : (b : Reading) (bytes : List ℕ) → kinds_of_head b bytes ≡ [] → is_wrong_level b.visit.level b.level ≡ false
+head_level : (b : BlockReading) (bytes : List ℕ) → kinds_of_head b bytes ≡ [] → is_wrong_level b.visit.level b.level ≡ false
 unfolding kinds_of_head
 head_level b bytes h =
     filter_nil (head_holds b bytes) head_kinds (through_nil ends (filter (head_holds b bytes) head_kinds) h) WrongLevel is_asked
 
-pub clean_block : (b : Reading) (bytes : List ℕ) → kinds_of_block b bytes ≡ [] → IsCleanBlock b bytes
+pub clean_block : (b : BlockReading) (bytes : List ℕ) → kinds_of_block b bytes ≡ [] → IsCleanBlock b bytes
 unfolding kinds_of_block
 clean_block b bytes h =
     let parts = nil_parts (map (λ kind. (0, kind)) (kinds_of_head b bytes)) _ h in
@@ -141,7 +141,7 @@ asked_rest = inr (inr (inr (inr (inr (inr (inr (inr (inr (inr (inr (inr (inr (in
 has_at : (test : ℕ → Bool) (o : Option ℕ) (p : ℕ) → o ≡ Some p → option_map_or test o false ≡ false → test p ≡ false
 has_at test o p e h = sym (ap (λ q. option_map_or test q false) e) ∙ h
 
-pub clean_pointer : (b : Reading) (s : Seen) (p : ℕ) → IsCleanRecord b s → pointer_of b s ≡ Some p → is_sound b p ≡ true
+pub clean_pointer : (b : BlockReading) (s : PlacedRecord) (p : ℕ) → IsCleanRecord b s → pointer_of b s ≡ Some p → is_sound b p ≡ true
 clean_pointer b s p c e =
     pointer_sound p b.header.total (2 ^ 31) (p % 512 == 0)
     (has_at _ (pointer_of b s) p e (c.none PointerNotPositive asked_not_positive))
@@ -160,18 +160,18 @@ pointer_there false true true x y l d f = refl
 pointer_there false true false x y l d f = absurd (cc)
 pointer_there false false four x y l d f = absurd (cc)
 
-pub leaf_pointer : (b : Reading) (s : Seen) → IsCleanRecord b s → is_last b s ≡ false → points b ≡ true → pointer_of b s ≡ Some (u32_at (rest_of b s) 0)
+pub leaf_pointer : (b : BlockReading) (s : PlacedRecord) → IsCleanRecord b s → is_last b s ≡ false → points b ≡ true → pointer_of b s ≡ Some (u32_at (rest_of b s) 0)
 leaf_pointer b s c l d =
     let four = rest_right (is_last b s) (points b) (length (rest_of b s) == 4) l d (c.none RestNotPointer asked_rest) in
     pointer_there (is_last b s) (points b) (length (rest_of b s) == 4) _ _ l d four
 
-pub not_last : (b : Reading) (s : Seen) → (b.level == 0) ≡ true → is_last b s ≡ false
+pub not_last : (b : BlockReading) (s : PlacedRecord) → (b.level == 0) ≡ true → is_last b s ≡ false
 not_last b s z = let e = eqb-true b.level 0 z in and_left _ _ (le-ltb 0 b.level (omega arith))
 
 -- ---- children of leaves
 
 -- A leaf of the directory has a child for each of its items: the root of the item's global.
-leaf_child : (b : Reading) (s : Seen) → IsCleanRecord b s → (b.level == 0) ≡ true → points b ≡ true
+leaf_child : (b : BlockReading) (s : PlacedRecord) → IsCleanRecord b s → (b.level == 0) ≡ true → points b ≡ true
     → map (λ (c : Child). c.visit) (child_of b s) ≡ root_of (record { key = key_of b s; rest = rest_of b s }) ∷ []
 unfolding target_of
 leaf_child b s c z d =
@@ -185,11 +185,11 @@ map_append : {A B : Type 0} (f : A → B) (xs ys : List A) → map f (xs ++ ys) 
 map_append f [] ys = refl
 map_append f (x ∷ xs) ys = ap (λ l. f x ∷ l) (map_append f xs ys)
 
-leaf_children : (b : Reading) (previous : List ℕ) (rs : List Record) → CleanRecords b previous rs → (b.level == 0) ≡ true → points b ≡ true
+leaf_children : (b : BlockReading) (previous : List ℕ) (rs : List Record) → CleanRecords b previous rs → (b.level == 0) ≡ true → points b ≡ true
     → map (λ (c : Child). c.visit) (children_from b previous rs) ≡ map root_of (items_from b previous rs)
 leaf_children b previous [] c z d = refl
 leaf_children b previous (r ∷ rs) c z d =
-    let s : Seen = seen previous r in
+    let s : PlacedRecord = seen previous r in
     ap (λ cs. map (λ (c : Child). c.visit) cs) (cond-false (is_ended b s) [] _ c.0.goes_on)
     ∙ map_append (λ (c : Child). c.visit) (child_of b s) (children_from b (key_of b s) rs)
     ∙ (λ i. leaf_child b s c.0 z d i ++ leaf_children b (key_of b s) rs c.1 z d i)
@@ -201,25 +201,25 @@ no_pointer true due four x y l d = absurd (cc)
 no_pointer false true four x y l d = absurd (cc)
 no_pointer false false four x y l d = refl
 
-value_children : (b : Reading) (previous : List ℕ) (rs : List Record) → (b.level == 0) ≡ true → points b ≡ false → children_from b previous rs ≡ []
+value_children : (b : BlockReading) (previous : List ℕ) (rs : List Record) → (b.level == 0) ≡ true → points b ≡ false → children_from b previous rs ≡ []
 value_children b previous [] z d = refl
 value_children b previous (r ∷ rs) z d =
-    let s : Seen = seen previous r in
+    let s : PlacedRecord = seen previous r in
     let e = no_pointer (is_last b s) (points b) (length (rest_of b s) == 4) _ _ (not_last b s z) d in
     cond_both (is_ended b s) _ _ (λ (cs : List Child). cs ≡ []) (λ _. refl)
     (λ _. (λ i. child_to b s (e i) ++ value_children b (key_of b s) rs z d i))
 
 -- ---- children of index blocks
 
-record IsBelow (b : Reading) (c : Child) : Type 0 where
+record IsBelow (b : BlockReading) (c : Child) : Type 0 where
   role : c.visit.role ≡ b.visit.role
   level : c.visit.level ≡ Some (b.level - 1)
 
-target_below : (b : Reading) (s : Seen) (p : ℕ) → (b.level == 0) ≡ false → IsBelow b (record { offset = s.record_.offset; visit = target_of b s p })
+target_below : (b : BlockReading) (s : PlacedRecord) (p : ℕ) → (b.level == 0) ≡ false → IsBelow b (record { offset = s.record_.offset; visit = target_of b s p })
 unfolding target_of
 target_below b s p z = rw z (record { role = refl; level = refl })
 
-index_child : (b : Reading) (s : Seen) (c : Child) → (b.level == 0) ≡ false → IsIn (child_of b s) c → IsBelow b c
+index_child : (b : BlockReading) (s : PlacedRecord) (c : Child) → (b.level == 0) ≡ false → IsIn (child_of b s) c → IsBelow b c
 index_child b s c z i = by (pointer_of b s) i
   where
     made : (p : ℕ) → IsBelow b (record { offset = s.record_.offset; visit = target_of b s p })
@@ -234,7 +234,7 @@ index_child b s c z i = by (pointer_of b s) i
     by None j = absurd j
     by (Some p) j = under p (is_sound b p) j
 
-index_children : (b : Reading) (previous : List ℕ) (rs : List Record) (c : Child) → (b.level == 0) ≡ false → IsIn (children_from b previous rs) c → IsBelow b c
+index_children : (b : BlockReading) (previous : List ℕ) (rs : List Record) (c : Child) → (b.level == 0) ≡ false → IsIn (children_from b previous rs) c → IsBelow b c
 index_children b previous [] c z i = absurd i
 index_children b previous (r ∷ rs) c z i = by (is_ended b (seen previous r)) i (index_children b (key_of b (seen previous r)) rs c z)
   where
@@ -257,7 +257,7 @@ rising_sooner : (low high : ℕ) (cs : List Child) → low ≤ high → RisingFr
 rising_sooner low high [] l r = tt
 rising_sooner low high (c ∷ cs) l r = (omega (arith, r.0), r.1)
 
-child_rises : (b : Reading) (s : Seen) (cs : List Child) → RisingFrom (suc s.record_.offset) cs → RisingFrom s.record_.offset (child_of b s ++ cs)
+child_rises : (b : BlockReading) (s : PlacedRecord) (cs : List Child) → RisingFrom (suc s.record_.offset) cs → RisingFrom s.record_.offset (child_of b s ++ cs)
 child_rises b s cs r = by (pointer_of b s)
   where
     sooner : RisingFrom s.record_.offset cs
@@ -278,11 +278,11 @@ some_size level left h =
     let some : 1 ≤ least_size level = cond_both (level == 0) 5 8 (λ n. 1 ≤ n) (λ _. omega arith) (λ _. omega arith) in
     omega (arith, least, some)
 
-on_rises : (b : Reading) (s : Seen) (t : Bool) (cs : List Child) → RisingFrom (suc s.record_.offset) cs → RisingFrom s.record_.offset (if t then [] else child_of b s ++ cs)
+on_rises : (b : BlockReading) (s : PlacedRecord) (t : Bool) (cs : List Child) → RisingFrom (suc s.record_.offset) cs → RisingFrom s.record_.offset (if t then [] else child_of b s ++ cs)
 on_rises b s true cs r = tt
 on_rises b s false cs r = child_rises b s cs r
 
-children_rise : (b : Reading) (n level at : ℕ) (left previous : List ℕ) → RisingFrom at (children_from b previous (records_up_to n level at left))
+children_rise : (b : BlockReading) (n level at : ℕ) (left previous : List ℕ) → RisingFrom at (children_from b previous (records_up_to n level at left))
 children_rise b zero level at left previous = tt
 children_rise b (suc n) level at left previous =
     by (is_well_sized level left) refl (records_up_to n level (at + block.size_of left) (drop (block.size_of left) left))
@@ -299,7 +299,7 @@ children_rise b (suc n) level at left previous =
 
 -- ---- at a visit
 
-abbrev pub reading_at : List ℕ → Visit → Reading
+abbrev pub reading_at : List ℕ → Visit → BlockReading
 reading_at image v = reading_of (fields_of image) v (block_of image v.block)
 
 abbrev pub kinds_at : List ℕ → Visit → List (ℕ × FaultKind)
@@ -345,7 +345,7 @@ index_role image v c level h e i =
 pub children_apart : (image : List ℕ) (v : Visit) → RisingFrom 16 (children_at image v)
 unfolding children_at children_of
 children_apart image v =
-    let b : Reading = reading_at image v in
+    let b : BlockReading = reading_at image v in
     let left : List ℕ = bytes_left (block_of image v.block) 16 in
     cond_both (list_any ends (kinds_of_head b (block_of image v.block))) _ _ (λ (cs : List Child). RisingFrom 16 cs) (λ _. tt)
     (λ _. children_rise b (length left) (level_at image v) 16 left [])

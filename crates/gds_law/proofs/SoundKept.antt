@@ -9,7 +9,7 @@ use Rattle.std.proofs.lemmas.List.{length-take-le, length-drop}
 use Rattle.gds_header.specs.Fields.{fields_of, block_of}
 use Rattle.gds_law.specs.Visit.{Visit, directory_root}
 use Rattle.gds_law.specs.Block.{fault_at, faults_of_block}
-use Rattle.gds_law.specs.Path.{Steps, child_at, visit_from, visit_at, path_cmp, front_of, GoesOn, AreKept, IsReached, AreReached}
+use Rattle.gds_law.specs.Path.{Steps, child_at, visit_from, visit_at, path_cmp, front_of, ExtendsKept, AreKept, IsReached, AreReached}
 use Rattle.gds_law.specs.Tree.{same_steps, is_among, double_faults, faults_at, ends_in, is_reached}
 use Rattle.gds_law.specs.Maps.{is_used}
 use Rattle.gds_law.specs.Sound.{is_in_use}
@@ -66,7 +66,7 @@ front_leads image (suc k) ((block, offset) ∷ steps) v w h =
 abbrev pub AllKept : List ℕ → List Steps → Type 0
 AllKept image kept = (path : Steps) (w : Visit) → visit_at image path ≡ Some w → Contains kept path
 
-kept_below : (image : List ℕ) (kept : List Steps) → Contains kept [] → ((path : Steps) (v : Visit) → GoesOn image kept path v → Contains kept path)
+kept_below : (image : List ℕ) (kept : List Steps) → Contains kept [] → ((path : Steps) (v : Visit) → ExtendsKept image kept path v → Contains kept path)
     → (n : ℕ) (path : Steps) (w : Visit) → length path < n → visit_at image path ≡ Some w → Contains kept path
 kept_below image kept root on zero path w low h = absurd (omega arith)
 kept_below image kept root on (suc n) [] w low h = root
@@ -79,7 +79,7 @@ kept_below image kept root on (suc n) (s ∷ path) w low h =
       leads = h;
     })
 
-all_kept : (image : List ℕ) (kept : List Steps) → AreKept image kept → ((path : Steps) (v : Visit) → GoesOn image kept path v → Contains kept path) → AllKept image kept
+all_kept : (image : List ℕ) (kept : List Steps) → AreKept image kept → ((path : Steps) (v : Visit) → ExtendsKept image kept path v → Contains kept path) → AllKept image kept
 all_kept image kept a on path w h =
     kept_below image kept ((a.exactly []).1 (inl refl)) on (suc (length path)) path w (omega arith) h
 

@@ -17,7 +17,7 @@ use Rattle.gds_law.specs.Kinds.{record_kinds}
 use Rattle.gds_law.specs.Visit.{TreeRole, Visit}
 use Rattle.gds_law.specs.Key.{name_part, subscript_parts, is_name, subscript_fault, first_fault, key_fault, is_text, unescaped}
 use Rattle.gds_law.specs.Number.{is_number_bytes}
-use Rattle.gds_law.specs.Reading.{Reading, Seen, is_last, full_of, key_end, key_of}
+use Rattle.gds_law.specs.BlockReading.{BlockReading, PlacedRecord, is_last, full_of, key_end, key_of}
 use Rattle.gds_law.specs.Record.{holds, is_kind, has_key_fault, is_directory, is_other_global, is_ended}
 use Rattle.gds_law.specs.Path.{children_at}
 use Rattle.gds_law.specs.Stands.{items_from}
@@ -57,7 +57,7 @@ asked_long = inr (inr (inr (inr (inl refl))))
 asked_end : IsIn record_kinds KeyWithoutEnd
 asked_end = inr (inr (inr (inr (inr (inl refl)))))
 
-key_whole : (b : Reading) (s : Seen) → IsCleanRecord b s → is_last b s ≡ false → key_len (key_of b s) ≡ Some (length (key_of b s))
+key_whole : (b : BlockReading) (s : PlacedRecord) → IsCleanRecord b s → is_last b s ≡ false → key_len (key_of b s) ≡ Some (length (key_of b s))
 key_whole b s c l =
     let e = some_end (key_end b s) b.header.key_max (length (full_of s))
     (sym (cond-false (is_last b s) _ _ l) ∙ c.none KeyTooLong asked_long) (sym (cond-false (is_last b s) _ _ l) ∙ c.none KeyWithoutEnd asked_end) in
@@ -117,7 +117,7 @@ same_kind kind (inr (inr (inr (inl e)))) = subst (λ k. is_kind k k ≡ true) e 
 same_kind kind (inr (inr (inr (inr (inl e))))) = subst (λ k. is_kind k k ≡ true) e refl
 same_kind kind (inr (inr (inr (inr (inr i))))) = absurd i
 
-keyed_kind : (b : Reading) (s : Seen) (kind : FaultKind) → IsIn key_kinds kind → is_last b s ≡ false → holds b s kind ≡ false → has_key_fault (key_of b s) kind ≡ false
+keyed_kind : (b : BlockReading) (s : PlacedRecord) (kind : FaultKind) → IsIn key_kinds kind → is_last b s ≡ false → holds b s kind ≡ false → has_key_fault (key_of b s) kind ≡ false
 unfolding key_kinds
 keyed_kind b s kind (inl e) l = subst (λ k. holds b s k ≡ false → has_key_fault (key_of b s) k ≡ false) e (λ h. sym (cond-false (is_last b s) _ _ l) ∙ h)
 keyed_kind b s kind (inr (inl e)) l = subst (λ k. holds b s k ≡ false → has_key_fault (key_of b s) k ≡ false) e (λ h. sym (cond-false (is_last b s) _ _ l) ∙ h)
@@ -130,7 +130,7 @@ no_kind : (o : Option FaultKind) → IsKeyKind o → ((kind : FaultKind) → IsI
 no_kind None k h = refl
 no_kind (Some kind) k h = absurd (true≢false (sym (same_kind kind k) ∙ h kind k))
 
-key_right : (b : Reading) (s : Seen) → IsCleanRecord b s → is_last b s ≡ false → key_fault (key_of b s) ≡ None
+key_right : (b : BlockReading) (s : PlacedRecord) → IsCleanRecord b s → is_last b s ≡ false → key_fault (key_of b s) ≡ None
 key_right b s c l = no_kind (key_fault (key_of b s)) (key_kind (key_of b s)) (λ kind i. keyed_kind b s kind i l (c.none kind (asked_kind kind i)))
 
 -- ---- its bytes
@@ -162,7 +162,7 @@ bodies_bytes (suc n) level at left h =
     let rest = bodies_bytes n level (at + block.size_of left) (drop (block.size_of left) left) (all_drop (block.size_of left) left h) in
     cond_both (is_well_sized level left) _ _ BodiesAreBytes (λ _. (all_drop 4 (take (block.size_of left) left) (all_take (block.size_of left) left h), rest)) (λ _. tt)
 
-key_bytes_small : (b : Reading) (s : Seen) → AreBytes s.previous → AreBytes s.record_.body → AreBytes (key_of b s)
+key_bytes_small : (b : BlockReading) (s : PlacedRecord) → AreBytes s.previous → AreBytes s.record_.body → AreBytes (key_of b s)
 key_bytes_small b s h k = all_take (unwrap_or (key_end b s) 0) (full_of s) (all_append (take s.record_.count s.previous) s.record_.body (all_take s.record_.count s.previous h) k)
 
 block_bytes : (image : List ℕ) (n : ℕ) → AreBytes image → AreBytes (block_of image n)
@@ -186,7 +186,7 @@ asked_subscript = inr (inr (inr (inr (inr (inr (inr (inr (inr (inr (inr (inr (in
 asked_global : IsIn record_kinds WrongGlobal
 asked_global = inr (inr (inr (inr (inr (inr (inr (inr (inr (inr (inr (inr (inr (inr (inl refl))))))))))))))
 
-right_key : (b : Reading) (s : Seen) → IsCleanRecord b s → is_last b s ≡ false → AreBytes s.previous → AreBytes s.record_.body → IsRightKey b.visit.role (key_of b s)
+right_key : (b : BlockReading) (s : PlacedRecord) → IsCleanRecord b s → is_last b s ≡ false → AreBytes s.previous → AreBytes s.record_.body → IsRightKey b.visit.role (key_of b s)
 right_key b s c l h k = record {
   whole = key_whole b s c l;
   bytes = key_bytes_small b s h k;
@@ -195,11 +195,11 @@ right_key b s c l h k = record {
   plain = sym (cond-false (is_last b s) _ _ l) ∙ c.none DirectorySubscript asked_subscript;
 }
 
-leaf_keys : (b : Reading) (previous : List ℕ) (rs : List Record) → (b.level == 0) ≡ true → CleanRecords b previous rs → AreBytes previous → BodiesAreBytes rs
+leaf_keys : (b : BlockReading) (previous : List ℕ) (rs : List Record) → (b.level == 0) ≡ true → CleanRecords b previous rs → AreBytes previous → BodiesAreBytes rs
     → (item : Item) → IsIn (items_from b previous rs) item → IsRightKey b.visit.role item.key
 leaf_keys b previous [] z c h k item i = absurd i
 leaf_keys b previous (r ∷ rs) z c h k item i =
-    let s : Seen = seen previous r in
+    let s : PlacedRecord = seen previous r in
     let right = right_key b s c.0 (not_last b s z) h k.0 in
     elim (subst (λ (l : List Item). IsIn l item) (cond-false (is_ended b s) [] _ c.0.goes_on) i) [
       | inl e ↦ subst (λ (w : Item). IsRightKey b.visit.role w.key) e right

@@ -15,7 +15,7 @@ use Rattle.gds_block.specs.Block.{used_of}
 use Rattle.gds_block.specs.Item.{Item}
 use Rattle.gds_law.specs.Kinds.{record_kinds}
 use Rattle.gds_law.specs.Visit.{Visit, Child}
-use Rattle.gds_law.specs.Reading.{Reading, Seen, is_first, is_last, size_of, key_of, pointer_of}
+use Rattle.gds_law.specs.BlockReading.{BlockReading, PlacedRecord, is_first, is_last, size_of, key_of, pointer_of}
 use Rattle.gds_law.specs.Record.{is_below, is_above_bound, is_below_bound, is_ended, low_of, high_of, target_of, child_to, child_of, is_sound}
 use Rattle.gds_law.specs.Block.{children_from}
 use Rattle.gds_law.specs.Stands.{items_from}
@@ -117,33 +117,33 @@ asked_above = inr (inr (inr (inr (inr (inr (inr (inr (inr (inr (inr (inr (inr (i
 asked_below : IsIn record_kinds KeyBelowBound
 asked_below = inr (inr (inr (inr (inr (inr (inr (inr (inr (inr (inr (inr (inr (inr (inr (inr (inl refl))))))))))))))))
 
-key_rises : (b : Reading) (s : Seen) → IsCleanRecord b s → is_last b s ≡ false → cmp s.previous (key_of b s) ≡ Less
+key_rises : (b : BlockReading) (s : PlacedRecord) → IsCleanRecord b s → is_last b s ≡ false → cmp s.previous (key_of b s) ≡ Less
 key_rises b s c l = less_from (cmp s.previous (key_of b s)) (sym (cond-false (is_last b s) _ _ l) ∙ c.none KeyOutOfOrder asked_order)
 
 high_from : (high : Option (List ℕ)) (key : List ℕ) → is_above_bound high key ≡ false → BelowHigh high key
 high_from None key h = tt
 high_from (Some high) key h = less_from (cmp key high) h
 
-key_high : (b : Reading) (s : Seen) → IsCleanRecord b s → is_last b s ≡ false → BelowHigh b.visit.high (key_of b s)
+key_high : (b : BlockReading) (s : PlacedRecord) → IsCleanRecord b s → is_last b s ≡ false → BelowHigh b.visit.high (key_of b s)
 key_high b s c l = high_from b.visit.high (key_of b s) (sym (cond-false (is_last b s) _ _ l) ∙ c.none KeyAboveBound asked_above)
 
 low_from : (level : ℕ) (low : Option (List ℕ)) (key : List ℕ) → is_below_bound level low key ≡ false → AboveLow low key
 low_from level None key h = tt
 low_from level (Some low) key h = (or_parts (is_below key low) _ h).0
 
-key_low : (b : Reading) (s : Seen) → IsCleanRecord b s → is_last b s ≡ false → AboveLow b.visit.low (key_of b s)
+key_low : (b : BlockReading) (s : PlacedRecord) → IsCleanRecord b s → is_last b s ≡ false → AboveLow b.visit.low (key_of b s)
 key_low b s c l = low_from b.level b.visit.low (key_of b s) (sym (cond-false (is_last b s) _ _ l) ∙ c.none KeyBelowBound asked_below)
 
 -- ---- leaves
 
-record IsLeafOrdered (b : Reading) (previous : List ℕ) (items : List Item) : Type 0 where
+record IsLeafOrdered (b : BlockReading) (previous : List ℕ) (items : List Item) : Type 0 where
   ordered : AreOrdered b.visit.low b.visit.high items
   later : (item : Item) → IsIn items item → cmp previous item.key ≡ Less
 
-leaf_ordered : (b : Reading) (previous : List ℕ) (rs : List Record) → (b.level == 0) ≡ true → CleanRecords b previous rs → IsLeafOrdered b previous (items_from b previous rs)
+leaf_ordered : (b : BlockReading) (previous : List ℕ) (rs : List Record) → (b.level == 0) ≡ true → CleanRecords b previous rs → IsLeafOrdered b previous (items_from b previous rs)
 leaf_ordered b previous [] z c = record { ordered = none_ordered b.visit.low b.visit.high; later = λ item i. absurd i }
 leaf_ordered b previous (r ∷ rs) z c =
-    let s : Seen = seen previous r in
+    let s : PlacedRecord = seen previous r in
     let l = not_last b s z in
     let less = key_rises b s c.0 l in
     let rest = leaf_ordered b (key_of b s) rs z c.1 in
@@ -172,7 +172,7 @@ abbrev pub AfterFirst : List Record → Type 0
 AfterFirst [] = ⊤
 AfterFirst (r ∷ rs) = (r.offset == 16) ≡ false
 
-abbrev pub InPlace : Reading → List Record → Type 0
+abbrev pub InPlace : BlockReading → List Record → Type 0
 InPlace b [] = ⊤
 InPlace b (r ∷ rs) = (is_last b (seen [] r) ≡ true → rs ≡ []) × AfterFirst rs × InPlace b rs
 
@@ -202,7 +202,7 @@ body_size : (at : ℕ) (left : List ℕ) → HasSize left → size_of (seen [] (
 body_size at left h =
     omega (arith, h.some, h.within, length-drop 4 (take (block.size_of left) left), length-take-le (block.size_of left) left h.within)
 
-in_place : (b : Reading) (n level at : ℕ) (left : List ℕ) → 16 ≤ at → (0 < length left → at + length left ≤ b.used) → InPlace b (records_up_to n level at left)
+in_place : (b : BlockReading) (n level at : ℕ) (left : List ℕ) → 16 ≤ at → (0 < length left → at + length left ≤ b.used) → InPlace b (records_up_to n level at left)
 in_place b zero level at left low within = tt
 in_place b (suc n) level at left low within = by (is_well_sized level left) refl (in_place b n level (at + block.size_of left) (drop (block.size_of left) left))
   where
@@ -263,11 +263,11 @@ one_ordered tree c f each h =
     let same : p.first.items ≡ f.items = sym (append-nil p.first.items) ∙ ap (λ (t : Tree). p.first.items ++ t.items) none ∙ ap (λ (t : Tree). t.items) p.is in
     subst (AreOrdered c.visit.low c.visit.high) same (each c p.first (inl refl) p.here)
 
-target_bounds : (b : Reading) (s : Seen) (p : ℕ) → (b.level == 0) ≡ false → ((target_of b s p).low ≡ low_of b s) × ((target_of b s p).high ≡ high_of b s)
+target_bounds : (b : BlockReading) (s : PlacedRecord) (p : ℕ) → (b.level == 0) ≡ false → ((target_of b s p).low ≡ low_of b s) × ((target_of b s p).high ≡ high_of b s)
 unfolding target_of
 target_bounds b s p z = rw z (refl, refl)
 
-child_ordered : (tree : Visit → Option Tree) (b : Reading) (s : Seen) (f : Tree) → (b.level == 0) ≡ false → EachOrdered tree (child_of b s) → forest_of tree (child_of b s) ≡ Some f → AreOrdered (low_of b s) (high_of b s) f.items
+child_ordered : (tree : Visit → Option Tree) (b : BlockReading) (s : PlacedRecord) (f : Tree) → (b.level == 0) ≡ false → EachOrdered tree (child_of b s) → forest_of tree (child_of b s) ≡ Some f → AreOrdered (low_of b s) (high_of b s) f.items
 child_ordered tree b s f z each h = by (pointer_of b s) each h
   where
     under : (p : ℕ) (t : Bool) → EachOrdered tree (if t then record { offset = s.record_.offset; visit = target_of b s p } ∷ [] else [])
@@ -283,33 +283,33 @@ child_ordered tree b s f z each h = by (pointer_of b s) each h
     by (Some p) e k = under p (is_sound b p) e k
 
 -- the lower bound from the first of some records on
-abbrev pub LowIs : Reading → List ℕ → Option (List ℕ) → List Record → Type 0
+abbrev pub LowIs : BlockReading → List ℕ → Option (List ℕ) → List Record → Type 0
 LowIs b previous low [] = ⊤
 LowIs b previous low (r ∷ rs) = low_of b (seen previous r) ≡ low
 
-low_later : (b : Reading) (key : List ℕ) (rs : List Record) → AfterFirst rs → LowIs b key (Some key) rs
+low_later : (b : BlockReading) (key : List ℕ) (rs : List Record) → AfterFirst rs → LowIs b key (Some key) rs
 low_later b key [] a = tt
 low_later b key (r ∷ rs) a = cond-false (r.offset == 16) _ _ a
 
-low_first : (b : Reading) (n level : ℕ) (left : List ℕ) → LowIs b [] b.visit.low (records_up_to n level 16 left)
+low_first : (b : BlockReading) (n level : ℕ) (left : List ℕ) → LowIs b [] b.visit.low (records_up_to n level 16 left)
 low_first b zero level left = tt
 low_first b (suc n) level left = cond_both (is_well_sized level left) _ _ (LowIs b [] b.visit.low) (λ _. refl) (λ _. tt)
 
-key_above : (b : Reading) (s : Seen) → IsCleanRecord b s → is_last b s ≡ false → AboveLow (low_of b s) (key_of b s)
+key_above : (b : BlockReading) (s : PlacedRecord) → IsCleanRecord b s → is_last b s ≡ false → AboveLow (low_of b s) (key_of b s)
 key_above b s c l =
     cond_both (is_first s) _ _ (λ low. AboveLow low (key_of b s)) (λ _. key_low b s c l) (λ _. not_below (key_of b s) s.previous (key_rises b s c l))
 
-high_last : (b : Reading) (s : Seen) → is_last b s ≡ true → high_of b s ≡ b.visit.high
+high_last : (b : BlockReading) (s : PlacedRecord) → is_last b s ≡ true → high_of b s ≡ b.visit.high
 high_last b s l = cond-true (is_last b s) _ _ l
 
-high_key : (b : Reading) (s : Seen) → is_last b s ≡ false → high_of b s ≡ Some (key_of b s)
+high_key : (b : BlockReading) (s : PlacedRecord) → is_last b s ≡ false → high_of b s ≡ Some (key_of b s)
 high_key b s l = cond-false (is_last b s) _ _ l
 
-index_ordered : (tree : Visit → Option Tree) (b : Reading) (previous : List ℕ) (rs : List Record) (low : Option (List ℕ)) (f : Tree) → (b.level == 0) ≡ false → CleanRecords b previous rs → InPlace b rs → LowIs b previous low rs
+index_ordered : (tree : Visit → Option Tree) (b : BlockReading) (previous : List ℕ) (rs : List Record) (low : Option (List ℕ)) (f : Tree) → (b.level == 0) ≡ false → CleanRecords b previous rs → InPlace b rs → LowIs b previous low rs
     → EachOrdered tree (children_from b previous rs) → forest_of tree (children_from b previous rs) ≡ Some f → AreOrdered low b.visit.high f.items
 index_ordered tree b previous [] low f z c place is each h = empty_ordered tree low b.visit.high f h
 index_ordered tree b previous (r ∷ rs) low f z c place is each h =
-    let s : Seen = seen previous r in
+    let s : PlacedRecord = seen previous r in
     let rest : List Child = children_from b (key_of b s) rs in
     let whole : children_from b previous (r ∷ rs) ≡ child_of b s ++ rest = cond-false (is_ended b s) [] _ c.0.goes_on in
     let each' : EachOrdered tree (child_of b s ++ rest) = subst (EachOrdered tree) whole each in
@@ -347,7 +347,7 @@ sound_ordered image zero v t h =
 sound_ordered image (suc level) v t h =
     let p = index_parts image level v t h in
     let bytes : List ℕ = block_of image v.block in
-    let b : Reading = reading_at image v in
+    let b : BlockReading = reading_at image v in
     let left : List ℕ = bytes_left bytes 16 in
     let c = clean_block b bytes p.none in
     let whole = children_clean image v p.none in

@@ -6,7 +6,7 @@ use Rattle.std.proofs.lemmas.Bool.{cond-true, cond-false, eq-eqb, eqb-true}
 use Rattle.gds_header.specs.Fields.{block_of}
 use Rattle.gds_block.specs.Item.{Item}
 use Rattle.gds_law.specs.Visit.{TreeRole, directory, global, Visit, Child, directory_root}
-use Rattle.gds_law.specs.Reading.{Reading, has_values, points}
+use Rattle.gds_law.specs.BlockReading.{BlockReading, has_values, points}
 use Rattle.gds_law.specs.Path.{Steps, children_at, child_at, visit_from, visit_at, AreKept}
 use Rattle.gds_law.specs.Stands.{values_of, values_at}
 use Rattle.gds_law.specs.Sound.{Tree, forest_of, items_at, sound_tree, tree_at, root_of}
@@ -22,7 +22,7 @@ abbrev pub values_in : List ℕ → Visit → List Item
 values_in image v = values_of (reading_at image v) (block_of image v.block)
 
 -- There are some in the leaves of globals alone, and there they are the items.
-value_role : (b : Reading) (role : TreeRole) (items : List Item) (item : Item) → IsIn (if not (has_values b role) then [] else items) item → (b.level ≡ 0) × ((name : List ℕ) × (role ≡ global name)) × IsIn items item
+value_role : (b : BlockReading) (role : TreeRole) (items : List Item) (item : Item) → IsIn (if not (has_values b role) then [] else items) item → (b.level ≡ 0) × ((name : List ℕ) × (role ≡ global name)) × IsIn items item
 value_role b directory items item i = absurd i
 value_role b (global name) items item i = by (b.level == 0) refl i
   where

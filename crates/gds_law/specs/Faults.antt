@@ -3,7 +3,7 @@ use Rattle.std.specs.Prelude.{◌≡◌, ℕ, List, ◌++◌, map, Option, None,
 use Rattle.gds_header.specs.declared.kind.HeaderKind.{HeaderKind}
 use Rattle.gds_header.specs.Kinds.{header_faults, ending_kind}
 use Rattle.gds_law.specs.Kinds.{fault_kind_of}
-use Rattle.gds_law.specs.Seen.{Told}
+use Rattle.gds_law.specs.Fault.{Told}
 use Rattle.gds_law.specs.Path.{Steps, AreKept, AreReached}
 use Rattle.gds_law.specs.Tree.{tree_faults}
 use Rattle.gds_law.specs.Maps.{is_used, map_faults, count_faults, fault_of}

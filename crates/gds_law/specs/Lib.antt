@@ -1,9 +1,9 @@
 pub mod Kinds
 pub mod Visit
-pub mod Seen
+pub mod Fault
 pub mod Number
 pub mod Key
-pub mod Reading
+pub mod BlockReading
 pub mod Record
 pub mod Block
 pub mod Path

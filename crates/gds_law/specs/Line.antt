@@ -2,7 +2,7 @@
 use Rattle.std.specs.Prelude.{ℕ, ◌%◌, ◌==◌, true, List, [], ◌∷◌, ◌++◌, codes, flat_map, if◌then◌else◌}
 use Rattle.std.specs.Fmt.{decimal, digits}
 use Rattle.gds_law.specs.Kinds.{name_of}
-use Rattle.gds_law.specs.Seen.{Told}
+use Rattle.gds_law.specs.Fault.{Told}
 use Rattle.gds_law.specs.declared.kind.FaultKind.{FaultKind}
 use Rattle.gds_law.specs.declared.kind.FaultKind.TheVariants.{ShortHeader, NotDatabase, BlockSizeNotMultiple, BlockSizeTooLarge, NoBlocks, BadLimit, ShortFile, LongFile, ReservedByte, BadTransactionNumber, BadVersion, TransactionTooNew, MapUsedTooSmall, MapUsedTooLarge, MapLevel, GroupMarkedFree, GroupMarkedFull, IllegalPair, UsedMarkedFree, UnusedMarkedBusy, PairPastTotal, WrongFreeCount}
 

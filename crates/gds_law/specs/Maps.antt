@@ -7,7 +7,7 @@ use Rattle.gds_header.specs.declared.header.Header.{Header}
 use Rattle.gds_header.specs.Fields.{fields_of, block_of}
 use Rattle.gds_header.specs.Kinds.{groups_of, has_free}
 use Rattle.gds_law.specs.Kinds.{map_kinds, pair_kinds}
-use Rattle.gds_law.specs.Seen.{Told}
+use Rattle.gds_law.specs.Fault.{Told}
 use Rattle.gds_law.specs.Path.{Steps}
 use Rattle.gds_law.specs.Tree.{is_reached}
 use Rattle.gds_law.specs.declared.kind.FaultKind.{FaultKind}

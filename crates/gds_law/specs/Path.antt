@@ -32,7 +32,7 @@ visit_from image v ((block, offset) ∷ steps) =
 abbrev pub visit_at : List ℕ → Steps → Option Visit
 visit_at image path = visit_from image directory_root path
 
--- Reading order compares the offsets from the front, and puts a path before its extensions. Two paths that begin alike go
+-- BlockReading order compares the offsets from the front, and puts a path before its extensions. Two paths that begin alike go
 -- on in one block, so the blocks never decide.
 abbrev pub step_cmp : ℕ × ℕ → ℕ × ℕ → Ordering
 step_cmp a b = ordering_then (nat_cmp a.1 b.1) (nat_cmp a.0 b.0)
@@ -45,7 +45,7 @@ abbrev pub front_of : Steps → Steps
 front_of path = take (length path - 1) path
 
 -- A path goes on from a kept one by a record that was read with a sound pointer, and leads there.
-pub record GoesOn (image : List ℕ) (kept : List Steps) (path : Steps) (v : Visit) : Type 0 where
+pub record ExtendsKept (image : List ℕ) (kept : List Steps) (path : Steps) (v : Visit) : Type 0 where
   pub longer : 0 < length path
   pub front : Contains kept (front_of path)
   pub leads : visit_at image path ≡ Some v
@@ -62,7 +62,7 @@ pub record IsTakenBefore (image : List ℕ) (kept : List Steps) (path : Steps) (
 -- A path is kept where it is empty, or goes on from a kept one to a block in which no earlier kept path ends.
 abbrev pub IsKept : List ℕ → List Steps → Steps → Type 0
 IsKept image kept path =
-    (path ≡ []) ⊎ ((v : Visit) × GoesOn image kept path v × (IsTakenBefore image kept path v.block → ⊥))
+    (path ≡ []) ⊎ ((v : Visit) × ExtendsKept image kept path v × (IsTakenBefore image kept path v.block → ⊥))
 
 -- the paths that are kept of an image, in reading order
 pub record AreKept (image : List ℕ) (kept : List Steps) : Type 0 where
@@ -71,7 +71,7 @@ pub record AreKept (image : List ℕ) (kept : List Steps) : Type 0 where
 
 -- A path is reached where it is empty, or goes on from a kept one, whether it is kept or not.
 abbrev pub IsReached : List ℕ → List Steps → Steps → Type 0
-IsReached image kept path = (path ≡ []) ⊎ ((v : Visit) × GoesOn image kept path v)
+IsReached image kept path = (path ≡ []) ⊎ ((v : Visit) × ExtendsKept image kept path v)
 
 -- the paths that are reached, in reading order
 pub record AreReached (image : List ℕ) (kept reached : List Steps) : Type 0 where

@@ -8,7 +8,7 @@ use Rattle.gds_header.specs.Kinds.{through_first}
 use Rattle.m_key.specs.KeyEnd.{shared}
 use Rattle.gds_law.specs.Kinds.{ends, record_kinds}
 use Rattle.gds_law.specs.Visit.{TreeRole, directory, global, Visit, Child, global_root}
-use Rattle.gds_law.specs.Reading.{Reading, Seen, is_first, size_of, is_last, full_of, key_end, key_of, rest_of, points, pointer_of}
+use Rattle.gds_law.specs.BlockReading.{BlockReading, PlacedRecord, is_first, size_of, is_last, full_of, key_end, key_of, rest_of, points, pointer_of}
 use Rattle.gds_law.specs.Key.{key_fault, name_part, subscript_parts}
 use Rattle.gds_law.specs.declared.kind.FaultKind.{FaultKind}
 use Rattle.gds_law.specs.declared.kind.FaultKind.TheVariants.{StarSize, StarCount, FirstCount, CountTooLarge, KeyTooLong, KeyWithoutEnd, WrongCount, KeyOutOfOrder, BadName, TooManySubscripts, BadNumber, BadString, NullSubscript, DirectorySubscript, WrongGlobal, KeyAboveBound, KeyBelowBound, RestNotPointer, ValueTooLong, PointerNotPositive, PointerTooLarge, PointerToMap}
@@ -46,11 +46,11 @@ abbrev pub is_below_bound : ℕ → Option (List ℕ) → List ℕ → Bool
 is_below_bound level low key =
     option_map_or (λ bound. is_below key bound || (nat_lt 0 level && bytes_eq key bound)) low false
 
-abbrev pub has_pointer : Reading → Seen → (ℕ → Bool) → Bool
+abbrev pub has_pointer : BlockReading → PlacedRecord → (ℕ → Bool) → Bool
 has_pointer b s test = option_map_or test (pointer_of b s) false
 
 -- The kind is there, of a record that isn't the last one of an index block.
-abbrev pub keyed_holds : Reading → Seen → FaultKind → Bool
+abbrev pub keyed_holds : BlockReading → PlacedRecord → FaultKind → Bool
 keyed_holds b s FirstCount = is_first s && not (s.record_.count == 0)
 keyed_holds b s CountTooLarge = not (is_first s) && nat_le (length s.previous) s.record_.count
 keyed_holds b s KeyTooLong = is_none (key_end b s) && nat_lt b.header.key_max (length (full_of s))
@@ -67,48 +67,48 @@ keyed_holds b s ValueTooLong = not (points b) && nat_lt b.header.value_max (leng
 keyed_holds b s kind = has_key_fault (key_of b s) kind
 
 -- the same of the last record
-abbrev pub last_holds : Seen → FaultKind → Bool
+abbrev pub last_holds : PlacedRecord → FaultKind → Bool
 last_holds s StarSize = not (size_of s == 8)
 last_holds s StarCount = not (s.record_.count == 0)
 last_holds s kind = false
 
 -- The kind is there.
-abbrev pub holds : Reading → Seen → FaultKind → Bool
+abbrev pub holds : BlockReading → PlacedRecord → FaultKind → Bool
 holds b s PointerNotPositive = has_pointer b s (λ p. p == 0 || nat_le (2 ^ 31) p)
 holds b s PointerTooLarge = has_pointer b s (λ p. nat_le b.header.total p && nat_lt p (2 ^ 31))
 holds b s PointerToMap = has_pointer b s (λ p. nat_lt 0 p && nat_lt p b.header.total && (p % 512 == 0))
 holds b s kind = if is_last b s then last_holds s kind else keyed_holds b s kind
 
 -- the kinds that are told of a record: those that are there, up to the first that ends the reading
-unfoldable pub kinds_of : Reading → Seen → List FaultKind
+unfoldable pub kinds_of : BlockReading → PlacedRecord → List FaultKind
 kinds_of b s = through_first ends (filter (holds b s) record_kinds)
 
 -- The reading of the block ends with this record.
-unfoldable pub is_ended : Reading → Seen → Bool
+unfoldable pub is_ended : BlockReading → PlacedRecord → Bool
 is_ended b s = list_any ends (kinds_of b s)
 
 -- A pointer is sound where it names a block that is no map.
-abbrev pub is_sound : Reading → ℕ → Bool
+abbrev pub is_sound : BlockReading → ℕ → Bool
 is_sound b p = nat_lt 0 p && nat_lt p b.header.total && not (p % 512 == 0)
 
 -- the lower bound below a record: the key before it or, in the first record, the block's own
-abbrev pub low_of : Reading → Seen → Option (List ℕ)
+abbrev pub low_of : BlockReading → PlacedRecord → Option (List ℕ)
 low_of b s = if is_first s then b.visit.low else Some s.previous
 
 -- the upper one: the key or, in the last record, the block's own
-abbrev pub high_of : Reading → Seen → Option (List ℕ)
+abbrev pub high_of : BlockReading → PlacedRecord → Option (List ℕ)
 high_of b s = if is_last b s then b.visit.high else Some (key_of b s)
 
 -- where a sound pointer leads: in a level-0 block of the directory to the root of the key's name
-unfoldable pub target_of : Reading → Seen → ℕ → Visit
+unfoldable pub target_of : BlockReading → PlacedRecord → ℕ → Visit
 target_of b s p =
     if b.level == 0 then global_root p (name_part (key_of b s))
     else record { block = p; role = b.visit.role; level = Some (b.level - 1); low = low_of b s; high = high_of b s }
 
-abbrev pub child_to : Reading → Seen → Option ℕ → List Child
+abbrev pub child_to : BlockReading → PlacedRecord → Option ℕ → List Child
 child_to b s None = []
 child_to b s (Some p) = if is_sound b p then record { offset = s.record_.offset; visit = target_of b s p } ∷ [] else []
 
 -- the child of a record that doesn't end the reading, if its pointer is sound
-abbrev pub child_of : Reading → Seen → List Child
+abbrev pub child_of : BlockReading → PlacedRecord → List Child
 child_of b s = child_to b s (pointer_of b s)

@@ -12,23 +12,23 @@ use Rattle.m_key.specs.Globals.{Globals, Place, is_led}
 use Rattle.gds_block.specs.Record.{Record, records_of}
 use Rattle.gds_header.specs.Fields.{fields_of, block_of}
 use Rattle.gds_block.specs.Item.{Item}
-use Rattle.gds_law.specs.Reading.{Reading, Seen, reading_of, key_of, rest_of, points}
+use Rattle.gds_law.specs.BlockReading.{BlockReading, PlacedRecord, reading_of, key_of, rest_of, points}
 use Rattle.gds_law.specs.Record.{is_ended}
 use Rattle.gds_law.specs.Path.{Steps, visit_at, AreKept}
 use Rattle.gds_law.specs.Faults.{AreFaults}
 
 -- key and rest of each record, one after another behind a key, up to the first that ends the reading
-abbrev pub items_from : Reading → List ℕ → List Record → List Item
+abbrev pub items_from : BlockReading → List ℕ → List Record → List Item
 items_from b previous [] = []
 items_from b previous (r ∷ rs) =
-    let s : Seen = record { previous = previous; record_ = r } in
+    let s : PlacedRecord = record { previous = previous; record_ = r } in
     if is_ended b s then [] else record { key = key_of b s; rest = rest_of b s } ∷ items_from b (key_of b s) rs
 
-abbrev pub items_of : Reading → List ℕ → List Item
+abbrev pub items_of : BlockReading → List ℕ → List Item
 items_of b bytes = items_from b [] (records_of bytes)
 
 -- the keys and values in the block of a visit, if it is a level-0 block of a global
-abbrev pub values_of : Reading → List ℕ → List Item
+abbrev pub values_of : BlockReading → List ℕ → List Item
 values_of b bytes = if points b then [] else items_of b bytes
 
 abbrev pub values_at : List ℕ → Steps → List Item

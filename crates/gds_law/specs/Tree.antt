@@ -4,7 +4,7 @@ use Rattle.std.specs.List.{list_any}
 use Rattle.std.specs.Option.{option_map_or}
 use Rattle.gds_block.specs.Block.{level_of}
 use Rattle.gds_header.specs.Fields.{fields_of, block_of}
-use Rattle.gds_law.specs.Seen.{Told}
+use Rattle.gds_law.specs.Fault.{Told}
 use Rattle.gds_law.specs.Block.{faults_of_block}
 use Rattle.gds_law.specs.Path.{Steps, visit_at, front_of}
 use Rattle.gds_law.specs.declared.kind.FaultKind.TheVariants.{DoublyAllocated}

@@ -1,6 +1,6 @@
 ghost use Rattle.std.specs.Prelude.{◌≡◌, ◌≤◌, ℕ, List, [], ◌∷◌, ◌++◌, OnOk, OnErr, IsErrOf};
 ghost use Rattle.host_model.specs.Failures.{Rose};
-ghost use Rattle.gds_law.specs.Seen.{Told, told_of};
+ghost use Rattle.gds_law.specs.Fault.{Told, told_of};
 
 use crate::Fault;
 use thiserror::Error;
@@ -19,15 +19,15 @@ pub enum SinkTrouble {
 /// What faults are told to, one after another.
 pub trait FaultSink {
     /// The faults that were told so far.
-    ghost told: { Self → List Told };
+    ghost listed: { Self → List Told };
 
     /// How often the sink has failed. It stands still at the greatest number of 64 bits.
     ghost failures: { Self → ℕ };
 
     /// Takes the fault, or where it can't leaves the list as it was.
     fn fault(&mut self, fault: &Fault) -> Result<(), SinkTrouble>
-        ensures ok { OnOk result (told self.new ≡ told self.old ++ told_of fault.now ∷ []) }
-        ensures err { OnErr result (told self.new ≡ told self.old) }
+        ensures ok { OnOk result (listed self.new ≡ listed self.old ++ told_of fault.now ∷ []) }
+        ensures err { OnErr result (listed self.new ≡ listed self.old) }
         ensures failures { failures self.old ≤ failures self.new }
         ensures failed { IsErrOf result SinkTrouble.Failed → Rose (failures self.old) (failures self.new) };
 }

@@ -8,12 +8,12 @@ use Rattle.gds_block.specs.Record as block
 use Rattle.gds_block.specs.Record.{Record, AreRecords, bytes_left, is_well_sized}
 use Rattle.gds_block.proofs.RecordLaws.{Fits-from_well_sized}
 use Rattle.gds_law.specs.Block.{fault_at, kinds_from, children_from, size_kinds}
-use Rattle.gds_law.specs.Reading.{Reading, Seen, size_of, is_last, key_of}
+use Rattle.gds_law.specs.BlockReading.{BlockReading, PlacedRecord, size_of, is_last, key_of}
 use Rattle.gds_law.specs.Record.{kinds_of, is_ended, child_of}
-use Rattle.gds_law.specs.Seen.{Told}
+use Rattle.gds_law.specs.Fault.{Told}
 use Rattle.gds_law.specs.declared.kind.FaultKind.{FaultKind}
 use Rattle.integ_block.specs.Entry.{Leaves, IsNext, children_at}
-use Rattle.integ_block.specs.Reading.{faults_at}
+use Rattle.integ_block.specs.BlockReading.{faults_at}
 
 -- ---- where records stand
 
@@ -54,7 +54,7 @@ module _ (level : ℕ) (bytes : List ℕ) (at : ℕ) (r : Record) (rs : List Rec
 
 -- ---- what is told of them, and their children
 
-pub length-faults : (b : Reading) (path : List (ℕ × ℕ)) (offset : ℕ) (kinds : List FaultKind) → length (faults_at b path offset kinds) ≡ length kinds
+pub length-faults : (b : BlockReading) (path : List (ℕ × ℕ)) (offset : ℕ) (kinds : List FaultKind) → length (faults_at b path offset kinds) ≡ length kinds
 length-faults b path offset kinds = length-map (map (λ kind. (offset, kind)) kinds) (fault_at b path) ∙ length-map kinds (λ kind. (offset, kind))
 
 if_none : {A : Type 0} (t : Bool) (xs : List A) → xs ≡ [] → (if t then [] else xs) ≡ []
@@ -65,8 +65,8 @@ pulled : {A : Type 0} (t : Bool) (xs : List A) → (if t then [] else xs ++ []) 
 pulled true xs = refl
 pulled false xs = refl
 
-module _ (b : Reading) (bytes : List ℕ) (at : ℕ) (previous : List ℕ) (r : Record) (rs : List Record) where
-  abbrev pub here : Seen
+module _ (b : BlockReading) (bytes : List ℕ) (at : ℕ) (previous : List ℕ) (r : Record) (rs : List Record) where
+  abbrev pub here : PlacedRecord
   here = record { previous = previous; record_ = r }
 
   -- the kinds of the bytes that are left behind the last record

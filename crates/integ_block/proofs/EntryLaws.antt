@@ -5,7 +5,7 @@ use Rattle.std.specs.List.{list_any}
 use Rattle.std.specs.Option.{option_map_or}
 use Rattle.std.proofs.lemmas.Bool.{cond-true, cond-false}
 use Rattle.gds_law.specs.Kinds.{ends}
-use Rattle.gds_law.specs.Reading.{Reading, Seen, is_last}
+use Rattle.gds_law.specs.BlockReading.{BlockReading, PlacedRecord, is_last}
 use Rattle.gds_law.specs.Record.{holds, keyed_holds, last_holds, is_kind, kinds_of, is_ended}
 use Rattle.gds_law.specs.declared.kind.FaultKind.{FaultKind}
 use Rattle.gds_law.specs.declared.kind.FaultKind.TheVariants.{StarSize, StarCount, FirstCount, CountTooLarge, KeyTooLong, KeyWithoutEnd, WrongCount, KeyOutOfOrder, BadName, TooManySubscripts, BadNumber, BadString, NullSubscript, DirectorySubscript, WrongGlobal, KeyAboveBound, KeyBelowBound, RestNotPointer, ValueTooLong, PointerNotPositive, PointerTooLarge, PointerToMap}
@@ -83,7 +83,7 @@ no_star_fault : (fault : Option FaultKind) → option_map_or (is_kind StarCount)
 no_star_fault None = refl
 no_star_fault (Some kind) = refl
 
-module _ (b : Reading) (s : Seen) where
+module _ (b : BlockReading) (s : PlacedRecord) where
   pub kinds_of-star : is_last b s ≡ true → last_holds s StarSize ≡ true → kinds_of b s ≡ StarSize ∷ []
   unfolding kinds_of
   kinds_of-star last h = only-StarSize (holds b s) plain_kinds (cond-true (is_last b s) _ _ last ∙ h)

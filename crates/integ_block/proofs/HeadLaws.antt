@@ -9,12 +9,12 @@ use Rattle.gds_block.specs.Record.{records_of}
 use Rattle.gds_header.specs.declared.header.Header.{Header}
 use Rattle.gds_law.specs.Block.{head_holds, kinds_of_head, kinds_of_block, kinds_from, children_from, children_of, fault_at, faults_of_block}
 use Rattle.gds_law.specs.Kinds.{ends, head_kinds}
-use Rattle.gds_law.specs.Reading.{Reading, reading_of}
+use Rattle.gds_law.specs.BlockReading.{BlockReading, reading_of}
 use Rattle.gds_law.specs.Visit.{Visit}
-use Rattle.gds_law.specs.Seen.{Told}
+use Rattle.gds_law.specs.Fault.{Told}
 use Rattle.gds_law.specs.declared.kind.FaultKind.{FaultKind}
 use Rattle.gds_law.specs.declared.kind.FaultKind.TheVariants.{BadVersion, TransactionTooNew, UsedTooSmall, UsedTooLarge, RootAtLevelZero, WrongLevel, EmptyBlock}
-use Rattle.integ_block.specs.Reading.{faults_at}
+use Rattle.integ_block.specs.BlockReading.{faults_at}
 use Rattle.integ_block.proofs.KindLaws.{kept, kept-not, kept-last, kept-yes, any_front}
 
 -- ---- where none of the kinds that stand ends the reading
@@ -56,17 +56,17 @@ IsBlock-open h v bytes long whole none =
 -- ---- the block's kinds and children
 
 -- the same of equal readings and paths
-pub same-head : (r s : Reading) (p q : List (ℕ × ℕ)) (bytes : List ℕ) → r ≡ s → p ≡ q
+pub same-head : (r s : BlockReading) (p q : List (ℕ × ℕ)) (bytes : List ℕ) → r ≡ s → p ≡ q
     → faults_at r p 0 (kept ends (head_holds r bytes) head_kinds) ≡ faults_at s q 0 (kept ends (head_holds s bytes) head_kinds)
 same-head r s p q bytes e f = ap (λ r. faults_at r p 0 (kept ends (head_holds r bytes) head_kinds)) e ∙ ap (λ p. faults_at s p 0 (kept ends (head_holds s bytes) head_kinds)) f
 
-pub same-behind : (r s : Reading) (p q : List (ℕ × ℕ)) (bytes : List ℕ) → r ≡ s → p ≡ q
+pub same-behind : (r s : BlockReading) (p q : List (ℕ × ℕ)) (bytes : List ℕ) → r ≡ s → p ≡ q
     → map (fault_at r p) (kinds_from r bytes 16 [] (records_of bytes)) ≡ map (fault_at s q) (kinds_from s bytes 16 [] (records_of bytes))
 same-behind r s p q bytes e f =
     ap (λ r. map (fault_at r p) (kinds_from r bytes 16 [] (records_of bytes))) e ∙ ap (λ p. map (fault_at s p) (kinds_from s bytes 16 [] (records_of bytes))) f
 
 module _ (h : Header) (path : List (ℕ × ℕ)) (v : Visit) (bytes : List ℕ) where
-  abbrev pub b : Reading
+  abbrev pub b : BlockReading
   b = reading_of h v bytes
 
   abbrev pub head : List FaultKind

@@ -5,7 +5,7 @@ use Rattle.std.proofs.lemmas.Bool.{le-leb, le-ltb, lt-ltb}
 use Rattle.std.proofs.lemmas.List.{take_at, drop_at, take-append-drop, take-take}
 use Rattle.m_key.specs.KeyEnd.{key_len, end_in, zero_after, HasOpenFronts}
 use Rattle.m_key.proofs.KeyEndLemmas.{key_len-end_in, end_in-append_open, end_in-take_less, end_in-take_same, key_len-append, HasOpenFronts-take}
-use Rattle.gds_law.specs.Reading.{Reading, Seen, full_of, key_end, key_of, rest_of}
+use Rattle.gds_law.specs.BlockReading.{BlockReading, PlacedRecord, full_of, key_end, key_of, rest_of}
 use Rattle.gds_law.specs.Record.{keyed_holds}
 use Rattle.gds_law.specs.declared.kind.FaultKind.TheVariants.{KeyTooLong, KeyWithoutEnd}
 use Rattle.integ_block.specs.Entry.{IsCount, IsKeyPart}
@@ -40,7 +40,7 @@ key_len-take_more bytes m n h le =
 
 -- ---- the end of a record's key
 
-module _ (b : Reading) (s : Seen) (count : IsCount b s) (fronts : HasOpenFronts s.previous) where
+module _ (b : BlockReading) (s : PlacedRecord) (count : IsCount b s) (fronts : HasOpenFronts s.previous) where
   abbrev front : List ℕ
   front = take s.record_.count s.previous
 

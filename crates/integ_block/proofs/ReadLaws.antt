@@ -4,14 +4,14 @@ use Rattle.std.specs.Prelude.{filter, not}
 use Rattle.std.proofs.lemmas.Bool.{eq-eqb, cond-true, cond-false}
 use Rattle.arrayvec.specs.ArrayVec.{ArrayVec}
 use Rattle.gds_law.specs.Kinds.{ends}
-use Rattle.gds_law.specs.Reading.{Reading, Seen}
+use Rattle.gds_law.specs.BlockReading.{BlockReading, PlacedRecord}
 use Rattle.gds_law.specs.Record.{holds, last_holds, kinds_of, is_ended, child_of}
 use Rattle.gds_law.specs.declared.kind.FaultKind.{FaultKind}
 use Rattle.gds_law.specs.declared.kind.FaultKind.TheVariants.{StarSize}
 use Rattle.integ_block.specs.Entry.{IsRead, Leaves, children_at}
 use Rattle.integ_block.proofs.EntryLaws.{entry_kinds, kinds_of-last, kinds_of-keyed, goes_on, is_ended-by}
 
-module _ (b : Reading) (s : Seen) where
+module _ (b : BlockReading) (s : PlacedRecord) where
   pub kinds_of-read : (key : Option (ArrayVec ℕ)) (rest : List ℕ) (fault : Option FaultKind) → IsRead b s key rest fault → kinds_of b s ≡ filter (holds b s) entry_kinds
   kinds_of-read None rest fault k =
       let size : 4 + length s.record_.body ≡ 8 = omega (arith, k.size) in

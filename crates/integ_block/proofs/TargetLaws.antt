@@ -3,7 +3,7 @@ use Rattle.std.proofs.Common.{ℕ, ◌≡◌, ◌-◌, ◌<◌, arith, Bool, tru
 use Rattle.std.specs.Prelude.{◌&&◌}
 use Rattle.std.proofs.lemmas.Bool.{eq-eqb, ltb-true, ne_eqb, cond-true, cond-false}
 use Rattle.gds_law.specs.Key.{name_part}
-use Rattle.gds_law.specs.Reading.{Reading, Seen, is_last, key_of}
+use Rattle.gds_law.specs.BlockReading.{BlockReading, PlacedRecord, is_last, key_of}
 use Rattle.gds_law.specs.Record.{target_of, low_of, high_of}
 use Rattle.gds_law.specs.Visit.{Visit, Child, global_root}
 
@@ -11,7 +11,7 @@ front_true : (x y : Bool) → (x && y) ≡ true → x ≡ true
 front_true true y h = refl
 front_true false y h = h
 
-module _ (b : Reading) (s : Seen) (p : ℕ) where
+module _ (b : BlockReading) (s : PlacedRecord) (p : ℕ) where
   abbrev pub to : Visit → Child
   to v = record { offset = s.record_.offset; visit = v }
 

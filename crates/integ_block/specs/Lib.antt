@@ -1,4 +1,4 @@
 pub mod Error
-pub mod Seen
-pub mod Reading
+pub mod Child
+pub mod BlockReading
 pub mod Entry

@@ -4,18 +4,18 @@ ghost use Rattle.host_model.specs.Failures.{Rose};
 ghost use Rattle.gds_block.specs.Block.{level_of, used_of, IsBlock};
 ghost use Rattle.gds_block.specs.Record.{bytes_left, records_of};
 ghost use Rattle.gds_law.specs.Block.{children_from, fault_at, kinds_from, size_kinds};
-ghost use Rattle.integ_block.specs.Reading.{reading, faults_at};
-ghost use Rattle.integ_block.specs.Seen.{seen_child};
+ghost use Rattle.integ_block.specs.BlockReading.{reading, faults_at};
+ghost use Rattle.integ_block.specs.Child.{seen_child};
 
 use crate::entry::Step;
-use crate::reading::Reading;
+use crate::reading::BlockReading;
 use crate::record::{FIRST, Record};
 use crate::{Child, IntegError};
 use gds_block::{BlockView, u16_at};
 use gds_law::{FaultKind, FaultSink};
 use m_key::Key;
 
-impl Reading<'_> {
+impl BlockReading<'_> {
     /// Tells the kinds that stand of the records of the block, and appends their children. It answers how many kinds
     /// were told.
     pub(crate) fn tell_records<F: FaultSink>(
@@ -31,7 +31,7 @@ impl Reading<'_> {
         requires used { self.now.used ≡ used_of bytes.now }
         requires key_max { self.now.header.now.key_max ≤ 255 }
         ensures ok { let b = reading self.now in
-            OnOk result (F.told sink.new ≡ F.told sink.old
+            OnOk result (F.listed sink.new ≡ F.listed sink.old
             ++ map (fault_at b self.now.at.now.path) (kinds_from b bytes.now 16 [] (records_of bytes.now))) }
         ensures count { let b = reading self.now in
             IfOk result (λ count. count ≡ length (kinds_from b bytes.now 16 [] (records_of bytes.now))) }
@@ -40,7 +40,7 @@ impl Reading<'_> {
             OnOk result (map seen_child children.new.items
             ≡ map seen_child children.old.items ++ children_from b [] (records_of bytes.now)) }
         ensures err { let b = reading self.now in
-            OnErr result ((n : ℕ) × (F.told sink.new ≡ F.told sink.old
+            OnErr result ((n : ℕ) × (F.listed sink.new ≡ F.listed sink.old
             ++ take n (map (fault_at b self.now.at.now.path) (kinds_from b bytes.now 16 [] (records_of bytes.now))))) }
         ensures err_children { let b = reading self.now in
             OnErr result ((n : ℕ) × (map seen_child children.new.items
@@ -80,13 +80,13 @@ impl Reading<'_> {
         requires within { end ≤ self.now.used }
         requires used { self.now.used ≡ used_of bytes.now }
         ensures ok { let b = reading self.now in
-            OnOk result (F.told sink.new ≡ F.told sink.old
+            OnOk result (F.listed sink.new ≡ F.listed sink.old
             ++ faults_at b self.now.at.now.path end (size_kinds b.level (bytes_left bytes.now end))) }
         ensures count { let b = reading self.now in
             IfOk result (λ count. count ≡ length (size_kinds b.level (bytes_left bytes.now end))) }
         ensures few { IfOk result (λ count. count ≤ 1) }
         ensures err { let b = reading self.now in
-            OnErr result (F.told sink.new ≡ F.told sink.old) }
+            OnErr result (F.listed sink.new ≡ F.listed sink.old) }
         ensures failures { F.failures sink.old ≤ F.failures sink.new }
         ensures say_fault { IsErrOf result IntegError.SayFault → Rose (F.failures sink.old) (F.failures sink.new) }
     {

@@ -1,5 +1,5 @@
 ghost use Rattle.std.specs.Prelude.{◌≡◌, ◌≤◌, length, option_map};
-ghost use Rattle.gds_law.specs.Seen.{role_of};
+ghost use Rattle.gds_law.specs.Fault.{role_of};
 
 use gds_law::Role;
 use m_key::join_key;

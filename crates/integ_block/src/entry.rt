@@ -1,11 +1,11 @@
 ghost use Rattle.std.specs.Prelude.{◌≡◌, ◌≤◌, ◌-◌, ℕ, if◌then◌else◌, ◌++◌, map, filter, length, take, Some, IfOk, OnOk, OnErr, IsErrOf};
 ghost use Rattle.std.specs.Option.{option_to_list};
 ghost use Rattle.host_model.specs.Failures.{Rose};
-ghost use Rattle.gds_law.specs.Reading.{is_last, pointer_of};
+ghost use Rattle.gds_law.specs.BlockReading.{is_last, pointer_of};
 ghost use Rattle.gds_law.specs.Record.{child_of, holds, is_kind, keyed_holds, last_holds, target_of};
-ghost use Rattle.integ_block.specs.Reading.{reading, faults_at};
+ghost use Rattle.integ_block.specs.BlockReading.{reading, faults_at};
 ghost use Rattle.integ_block.specs.Entry.{children_here, faults_here, kinds_here, seen, IsEntry, IsKeyed, LeavesHere};
-ghost use Rattle.integ_block.specs.Seen.{seen_child};
+ghost use Rattle.integ_block.specs.Child.{seen_child};
 
 use crate::compare::is_below;
 use crate::copies::{bound_of, key_of};
@@ -67,13 +67,13 @@ impl Entry<'_> {
     ) -> Result<Step, IntegError>
         requires entry { IsEntry self }
         requires short { length self.record.previous.now ≤ 255 }
-        ensures ok { OnOk result (F.told sink.new ≡ F.told sink.old ++ faults_here self.entry.record) }
+        ensures ok { OnOk result (F.listed sink.new ≡ F.listed sink.old ++ faults_here self.entry.record) }
         ensures count { IfOk result (λ step. step.count ≡ length (kinds_here self.entry.record)) }
         ensures few { IfOk result (λ step. step.count ≤ 17) }
         ensures children { OnOk result
             (map seen_child children.new.items ≡ map seen_child children.old.items ++ children_here self.entry.record) }
         ensures leaves { IfOk result (λ step. LeavesHere self.entry.record step.key) }
-        ensures err { OnErr result ((n : ℕ) × (F.told sink.new ≡ F.told sink.old ++ take n (faults_here self.entry.record))) }
+        ensures err { OnErr result ((n : ℕ) × (F.listed sink.new ≡ F.listed sink.old ++ take n (faults_here self.entry.record))) }
         ensures err_children { OnErr result (map seen_child children.new.items ≡ map seen_child children.old.items) }
         ensures failures { F.failures sink.old ≤ F.failures sink.new }
         ensures say_fault { IsErrOf result IntegError.SayFault → Rose (F.failures sink.old) (F.failures sink.new) }
@@ -92,13 +92,13 @@ impl Entry<'_> {
     fn tell<F: FaultSink>(&self, kinds: &[FaultKind], sink: &mut F) -> Result<u64, IntegError>
         requires { IsEntry self.now }
         ensures ok { let found = filter (holds (reading self.now.record.reading) (seen self.now.record)) kinds.now in
-            OnOk result (F.told sink.new ≡ F.told sink.old ++ faults_at (reading self.now.record.reading)
+            OnOk result (F.listed sink.new ≡ F.listed sink.old ++ faults_at (reading self.now.record.reading)
             self.now.record.reading.at.now.path self.now.record.view.offset found) }
         ensures count { let found = filter (holds (reading self.now.record.reading) (seen self.now.record)) kinds.now in
             IfOk result (λ count. count ≡ length found) }
         ensures few { IfOk result (λ count. count ≤ length kinds.now) }
         ensures err { let found = filter (holds (reading self.now.record.reading) (seen self.now.record)) kinds.now in
-            OnErr result ((n : ℕ) × (F.told sink.new ≡ F.told sink.old ++ take n (faults_at
+            OnErr result ((n : ℕ) × (F.listed sink.new ≡ F.listed sink.old ++ take n (faults_at
             (reading self.now.record.reading) self.now.record.reading.at.now.path self.now.record.view.offset found))) }
         ensures failures { F.failures sink.old ≤ F.failures sink.new }
         ensures say_fault { IsErrOf result IntegError.SayFault → Rose (F.failures sink.old) (F.failures sink.new) }

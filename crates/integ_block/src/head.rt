@@ -4,10 +4,10 @@ ghost use Rattle.host_model.specs.Failures.{Rose};
 ghost use Rattle.gds_header.specs.Kinds.{through_first};
 ghost use Rattle.gds_law.specs.Block.{head_holds, is_wrong_level, may_be_empty};
 ghost use Rattle.gds_law.specs.Kinds.{ends};
-ghost use Rattle.integ_block.specs.Reading.{reading, faults_at};
+ghost use Rattle.integ_block.specs.BlockReading.{reading, faults_at};
 
 use crate::IntegError;
-use crate::reading::Reading;
+use crate::reading::BlockReading;
 use gds_block::{u16_at, u64_at};
 use gds_law::{FaultKind, FaultSink};
 
@@ -29,7 +29,7 @@ pub(crate) struct HeadTold {
     pub(crate) is_end: bool,
 }
 
-impl Reading<'_> {
+impl BlockReading<'_> {
     /// Tells those of the kinds that stand of the head, up to the first that ends the reading.
     pub(crate) fn tell_head<F: FaultSink>(
         &self,
@@ -39,16 +39,16 @@ impl Reading<'_> {
     ) -> Result<HeadTold, IntegError>
         requires { 16 ≤ length bytes.now }
         ensures ok { let found = through_first ends (filter (head_holds (reading self.now) bytes.now) kinds.now) in
-            OnOk result (F.told sink.new
-            ≡ F.told sink.old ++ faults_at (reading self.now) self.now.at.now.path 0 found) }
+            OnOk result (F.listed sink.new
+            ≡ F.listed sink.old ++ faults_at (reading self.now) self.now.at.now.path 0 found) }
         ensures count { let found = through_first ends (filter (head_holds (reading self.now) bytes.now) kinds.now) in
             IfOk result (λ told. told.count ≡ length found) }
         ensures is_end { let found = through_first ends (filter (head_holds (reading self.now) bytes.now) kinds.now) in
             IfOk result (λ told. told.is_end ≡ list_any ends found) }
         ensures few { IfOk result (λ told. told.count ≤ length kinds.now) }
         ensures err { let found = through_first ends (filter (head_holds (reading self.now) bytes.now) kinds.now) in
-            OnErr result ((n : ℕ) × (F.told sink.new
-            ≡ F.told sink.old ++ take n (faults_at (reading self.now) self.now.at.now.path 0 found))) }
+            OnErr result ((n : ℕ) × (F.listed sink.new
+            ≡ F.listed sink.old ++ take n (faults_at (reading self.now) self.now.at.now.path 0 found))) }
         ensures failures { F.failures sink.old ≤ F.failures sink.new }
         ensures say_fault { IsErrOf result IntegError.SayFault → Rose (F.failures sink.old) (F.failures sink.new) }
     {

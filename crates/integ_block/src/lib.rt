@@ -5,7 +5,7 @@ ghost use Rattle.std.specs.Prelude.{◌≡◌, ◌≤◌, ℕ, ◌++◌, length,
 ghost use Rattle.host_model.specs.Failures.{Rose};
 ghost use Rattle.gds_header.specs.Kinds.{IsWithinLimits};
 ghost use Rattle.gds_law.specs.Block.{faults_of_block, children_of};
-ghost use Rattle.integ_block.specs.Seen.{visit_of, seen_child};
+ghost use Rattle.integ_block.specs.Child.{visit_of, seen_child};
 
 mod at;
 mod block;
@@ -24,7 +24,7 @@ use gds_block::BlockView;
 use gds_header::Header;
 use gds_law::FaultSink;
 use head::HEAD_KINDS;
-use reading::Reading;
+use reading::BlockReading;
 
 /// Tells the faults of the block that a path leads to, but for those of doubly allocated blocks, and appends its
 /// children with sound pointers. It answers how many faults those are. Where it is refused, some of the first of
@@ -39,22 +39,22 @@ pub fn block_faults<F: FaultSink>(
     requires limits { IsWithinLimits header.now }
     requires whole { length bytes.now ≡ header.now.block_size }
     ensures told { OnOk result
-        (F.told sink.new ≡ F.told sink.old ++ faults_of_block header.now at.now.path (visit_of at.now) bytes.now) }
+        (F.listed sink.new ≡ F.listed sink.old ++ faults_of_block header.now at.now.path (visit_of at.now) bytes.now) }
     ensures count { IfOk result
         (λ n. n ≡ length (faults_of_block header.now at.now.path (visit_of at.now) bytes.now)) }
     ensures children { OnOk result
         (map seen_child children.new.items
         ≡ map seen_child children.old.items ++ children_of header.now (visit_of at.now) bytes.now) }
     ensures err_told { OnErr result ((n : ℕ)
-        × (F.told sink.new
-        ≡ F.told sink.old ++ take n (faults_of_block header.now at.now.path (visit_of at.now) bytes.now))) }
+        × (F.listed sink.new
+        ≡ F.listed sink.old ++ take n (faults_of_block header.now at.now.path (visit_of at.now) bytes.now))) }
     ensures err_children { OnErr result ((n : ℕ)
         × (map seen_child children.new.items
         ≡ map seen_child children.old.items ++ take n (children_of header.now (visit_of at.now) bytes.now))) }
     ensures failures { F.failures sink.old ≤ F.failures sink.new }
     ensures say_fault { IsErrOf result IntegError.SayFault → Rose (F.failures sink.old) (F.failures sink.new) }
 {
-    let reading = Reading::of(bytes, at, header);
+    let reading = BlockReading::of(bytes, at, header);
     let head = reading.tell_head(bytes, &HEAD_KINDS, sink)?;
     match BlockView::new(bytes) {
         Some(block) if !head.is_end => {

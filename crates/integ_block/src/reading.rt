@@ -1,10 +1,10 @@
 ghost use Rattle.std.specs.Prelude.{◌≡◌, ◌≤◌, ◌∷◌, [], ◌++◌, OnOk, OnErr, IsErrOf, length};
 ghost use Rattle.host_model.specs.Failures.{Rose};
 ghost use Rattle.gds_law.specs.Block.{fault_at};
-ghost use Rattle.gds_law.specs.Reading.{points, reading_of};
+ghost use Rattle.gds_law.specs.BlockReading.{points, reading_of};
 ghost use Rattle.gds_law.specs.Record.{is_above_bound, is_below_bound, is_directory, is_other_global, is_sound};
-ghost use Rattle.integ_block.specs.Seen.{visit_of};
-ghost use Rattle.integ_block.specs.Reading.{reading};
+ghost use Rattle.integ_block.specs.Child.{visit_of};
+ghost use Rattle.integ_block.specs.BlockReading.{reading};
 
 use crate::compare::is_below;
 use crate::{At, IntegError};
@@ -14,21 +14,21 @@ use gds_law::{Fault, FaultKind, FaultSink, Role};
 
 /// A block as it is read: the file's header, where the block stands, its level byte and its used count.
 #[derive(Clone, Copy)]
-pub(crate) struct Reading<'a> {
+pub(crate) struct BlockReading<'a> {
     pub(crate) header: &'a Header,
     pub(crate) at: &'a At,
     pub(crate) level: u8,
     pub(crate) used: u32,
 }
 
-impl<'a> Reading<'a> {
+impl<'a> BlockReading<'a> {
     /// The reading of a block with these bytes.
-    pub(crate) fn of(bytes: &[u8], at: &'a At, header: &'a Header) -> Reading<'a>
+    pub(crate) fn of(bytes: &[u8], at: &'a At, header: &'a Header) -> BlockReading<'a>
         requires { 16 ≤ length bytes.now }
         ensures reading { reading result ≡ reading_of header.now (visit_of at.now) bytes.now }
         ensures at { result.at.now ≡ at.now }
     {
-        Reading {
+        BlockReading {
             header,
             at,
             level: bytes[3],
@@ -44,8 +44,8 @@ impl<'a> Reading<'a> {
         sink: &mut F,
     ) -> Result<(), IntegError>
         ensures ok { OnOk result
-            (F.told sink.new ≡ F.told sink.old ++ fault_at (reading self.now) self.now.at.now.path (offset, kind) ∷ []) }
-        ensures err { OnErr result (F.told sink.new ≡ F.told sink.old) }
+            (F.listed sink.new ≡ F.listed sink.old ++ fault_at (reading self.now) self.now.at.now.path (offset, kind) ∷ []) }
+        ensures err { OnErr result (F.listed sink.new ≡ F.listed sink.old) }
         ensures failures { F.failures sink.old ≤ F.failures sink.new }
         ensures say_fault { IsErrOf result IntegError.SayFault → Rose (F.failures sink.old) (F.failures sink.new) }
     {

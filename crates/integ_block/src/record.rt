@@ -2,18 +2,18 @@ ghost use Rattle.std.specs.Prelude.{◌≡◌, ◌+◌, ◌-◌, ◌<◌, ◌≤
 ghost use Rattle.host_model.specs.Failures.{Rose};
 ghost use Rattle.gds_law.specs.Key.{name_part};
 ghost use Rattle.gds_law.specs.Kinds.{ends};
-ghost use Rattle.gds_law.specs.Reading.{is_last, is_first};
+ghost use Rattle.gds_law.specs.BlockReading.{is_last, is_first};
 ghost use Rattle.gds_law.specs.Record.{low_of};
 ghost use Rattle.gds_law.specs.Visit.{global_root};
 ghost use Rattle.m_key.specs.KeyEnd.{HasOpenFronts};
-ghost use Rattle.integ_block.specs.Reading.{reading};
+ghost use Rattle.integ_block.specs.BlockReading.{reading};
 ghost use Rattle.integ_block.specs.Entry.{children_here, faults_here, kinds_here, seen, IsEntry, IsCount, IsKeyPart, LeavesHere};
-ghost use Rattle.integ_block.specs.Seen.{seen_child};
+ghost use Rattle.integ_block.specs.Child.{seen_child};
 
 use crate::copies::{bound_of, key_of, role_of};
 use crate::entry::{Entry, Step};
 use crate::key::{key_fault, name_part};
-use crate::reading::Reading;
+use crate::reading::BlockReading;
 use crate::{Child, IntegError};
 use gds_block::RecordView;
 use gds_law::{FaultKind, FaultSink, Role};
@@ -26,7 +26,7 @@ pub(crate) const FIRST: u32 = 16;
 /// A record, and the key before it, which is empty where there is none.
 #[derive(Clone, Copy)]
 pub(crate) struct Record<'a> {
-    pub(crate) reading: Reading<'a>,
+    pub(crate) reading: BlockReading<'a>,
     pub(crate) previous: &'a [u8],
     pub(crate) view: RecordView<'a>,
 }
@@ -42,13 +42,13 @@ impl<'a> Record<'a> {
         requires key_max { self.reading.header.now.key_max ≤ 255 }
         requires fronts { HasOpenFronts self.previous.now }
         requires short { length self.previous.now ≤ 255 }
-        ensures ok { OnOk result (F.told sink.new ≡ F.told sink.old ++ faults_here self.entry) }
+        ensures ok { OnOk result (F.listed sink.new ≡ F.listed sink.old ++ faults_here self.entry) }
         ensures count { IfOk result (λ step. step.count ≡ length (kinds_here self.entry)) }
         ensures few { IfOk result (λ step. step.count ≤ 17) }
         ensures children { OnOk result
             (map seen_child children.new.items ≡ map seen_child children.old.items ++ children_here self.entry) }
         ensures leaves { IfOk result (λ step. LeavesHere self.entry step.key) }
-        ensures err { OnErr result ((n : ℕ) × (F.told sink.new ≡ F.told sink.old ++ take n (faults_here self.entry))) }
+        ensures err { OnErr result ((n : ℕ) × (F.listed sink.new ≡ F.listed sink.old ++ take n (faults_here self.entry))) }
         ensures err_children { OnErr result (map seen_child children.new.items ≡ map seen_child children.old.items) }
         ensures failures { F.failures sink.old ≤ F.failures sink.new }
         ensures say_fault { IsErrOf result IntegError.SayFault → Rose (F.failures sink.old) (F.failures sink.new) }

@@ -1,6 +1,6 @@
 ghost use Rattle.std.specs.Prelude.{◌≡◌};
 ghost use Rattle.gds_header.specs.Kinds.{IsWithinLimits};
-ghost use Rattle.gds_law.specs.Seen.{told_of};
+ghost use Rattle.gds_law.specs.Fault.{told_of};
 
 mod rows;
 
@@ -23,9 +23,9 @@ struct Kept {
 
 impl FaultSink for Kept {
     ghost use Rattle.std.specs.Prelude.{map};
-    ghost use Rattle.gds_law.specs.Seen.{told_of};
+    ghost use Rattle.gds_law.specs.Fault.{told_of};
 
-    ghost told = { λ kept. map told_of kept.faults.items };
+    ghost listed = { λ kept. map told_of kept.faults.items };
 
     ghost failures = { λ kept. kept.failures };
 

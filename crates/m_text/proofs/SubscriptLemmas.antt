@@ -9,7 +9,7 @@ use Rattle.m_key.specs.Node.{NodeSubscript, number, IsSubscript, spelled}
 use Rattle.m_key.specs.Node.{string as text_node}
 use Rattle.m_text.specs.Grammar.{joined, Piece, piece_text, piece_bytes, IsPiece, Expression, bare, string, expression_text, expression_bytes, IsExpression}
 use Rattle.m_text.specs.Reading.{Found, leads, string_at, is_number_byte}
-use Rattle.m_text.specs.Standing.{StandsAt, IsEnded, ListStandsAt, GoesOn}
+use Rattle.m_text.specs.Standing.{StandsAt, IsEnded, ListStandsAt, StandsBefore}
 use Rattle.m_text.proofs.Found.{pair_of}
 use Rattle.m_text.proofs.Conditions.{yes, no, bool_cases}
 use Rattle.m_text.proofs.Fronts.{heads, prefix_len-append, prefix_len-no}
@@ -223,7 +223,7 @@ first_of_list text ss rest h = first_from h.expressions text ss rest h.some h.ri
 after_is : (text after more rest : List ℕ) (s : NodeSubscript) (by : ℕ) → ((t : NodeSubscript) (r : List ℕ) → IsEnded r → StandsAt text t r → r ≡ after) → ((xs : List ℕ) → IsEnded (by ∷ xs)) → StandsAt text s (by ∷ more) → by ∷ more ≡ after
 after_is text after more rest s by only e h = only s (by ∷ more) (e more) h
 
-pub goes_step : (text after more rest : List ℕ) (i : ℕ) → ((t : NodeSubscript) (r : List ℕ) → IsEnded r → StandsAt text t r → r ≡ after) → after ≡ 44 ∷ more → GoesOn text i rest → GoesOn more (i + 1) rest
+pub goes_step : (text after more rest : List ℕ) (i : ℕ) → ((t : NodeSubscript) (r : List ℕ) → IsEnded r → StandsAt text t r → r ≡ after) → after ≡ 44 ∷ more → StandsBefore text i rest → StandsBefore more (i + 1) rest
 goes_step text after more rest i only e g =
     let f = first_of_list text g.ss rest g.stand in
     ⊎_elim
@@ -240,7 +240,7 @@ goes_step text after more rest i only e g =
     record { ss = f.others; right = right.1; count = omega (arith, size, g.count); stand = subst P behind next.2 })
     f.is
 
-pub goes_end : (text after more rest : List ℕ) (i : ℕ) → ((t : NodeSubscript) (r : List ℕ) → IsEnded r → StandsAt text t r → r ≡ after) → after ≡ 41 ∷ more → GoesOn text i rest → rest ≡ more
+pub goes_end : (text after more rest : List ℕ) (i : ℕ) → ((t : NodeSubscript) (r : List ℕ) → IsEnded r → StandsAt text t r → r ≡ after) → after ≡ 41 ∷ more → StandsBefore text i rest → rest ≡ more
 goes_end text after more rest i only e g =
     let f = first_of_list text g.ss rest g.stand in
     ⊎_elim
@@ -252,7 +252,7 @@ goes_end text after more rest i only e g =
     absurd (cc))
     f.is
 
-pub goes_stuck : (text after rest : List ℕ) (i : ℕ) → ((t : NodeSubscript) (r : List ℕ) → IsEnded r → StandsAt text t r → r ≡ after) → leads 44 after ≡ false → leads 41 after ≡ false → GoesOn text i rest → ⊥
+pub goes_stuck : (text after rest : List ℕ) (i : ℕ) → ((t : NodeSubscript) (r : List ℕ) → IsEnded r → StandsAt text t r → r ≡ after) → leads 44 after ≡ false → leads 41 after ≡ false → StandsBefore text i rest → ⊥
 goes_stuck text after rest i only no_more no_end g =
     let f = first_of_list text g.ss rest g.stand in
     ⊎_elim
@@ -264,7 +264,7 @@ goes_stuck text after rest i only no_more no_end g =
     absurd (cc))
     f.is
 
-pub goes_none : (text rest : List ℕ) (i : ℕ) → ((t : NodeSubscript) (r : List ℕ) → IsSubscript t → IsEnded r → StandsAt text t r → ⊥) → GoesOn text i rest → ⊥
+pub goes_none : (text rest : List ℕ) (i : ℕ) → ((t : NodeSubscript) (r : List ℕ) → IsSubscript t → IsEnded r → StandsAt text t r → ⊥) → StandsBefore text i rest → ⊥
 goes_none text rest i none g =
     let f = first_of_list text g.ss rest g.stand in
     let Q : List NodeSubscript → Type 0 = λ ss. AllByRecursion IsSubscript ss in
@@ -274,7 +274,7 @@ goes_none text rest i none g =
     (λ (next : (m : List ℕ) × StandsAt text f.s (44 ∷ m) × ListStandsAt m f.others rest). none f.s (44 ∷ next.0) right.0 refl next.1)
     f.is
 
-pub goes_full : (text rest : List ℕ) (i : ℕ) → 31 ≤ i → GoesOn text i rest → ⊥
+pub goes_full : (text rest : List ℕ) (i : ℕ) → 31 ≤ i → StandsBefore text i rest → ⊥
 goes_full text rest i l g =
     let f = first_of_list text g.ss rest g.stand in
     let size : length g.ss ≡ suc (length f.others) = ap length f.are in

@@ -26,7 +26,7 @@ pub record ListStandsAt (text : List ℕ) (ss : List NodeSubscript) (rest : List
   pub meant : map expression_bytes expressions ≡ map spelled ss
 
 -- of these subscripts, some stand at the front of the text, after so many others
-pub record GoesOn (text : List ℕ) (before : ℕ) (rest : List ℕ) : Type 0 where
+pub record StandsBefore (text : List ℕ) (before : ℕ) (rest : List ℕ) : Type 0 where
   pub ss : List NodeSubscript
   pub right : AllByRecursion IsSubscript ss
   pub count : before + length ss ≤ 31

@@ -6,12 +6,12 @@ use Rattle.gds_block.specs.Block.{IsBlock}
 use Rattle.gds_block.specs.Record.{records_of}
 use Rattle.gds_law.specs.Block.{fault_at, faults_of_block, head_holds, kinds_from, children_from, children_of}
 use Rattle.gds_law.specs.Kinds.{ends, head_kinds}
-use Rattle.gds_law.specs.Reading as law
-use Rattle.gds_law.specs.Seen.{Told}
+use Rattle.gds_law.specs.BlockReading as law
+use Rattle.gds_law.specs.Fault.{Told}
 use Rattle.gds_law.specs.Visit.{Visit, Child}
 use Rattle.gds_header.specs.declared.header.Header.{Header}
-use Rattle.integ_block.specs.Reading.{reading, faults_at}
-use Rattle.integ_block.specs.Seen.{visit_of, seen_child}
+use Rattle.integ_block.specs.BlockReading.{reading, faults_at}
+use Rattle.integ_block.specs.Child.{visit_of, seen_child}
 use Rattle.integ_block.proofs.BlockLaws.{length-faults}
 use Rattle.integ_block.proofs.HeadLaws.{b, head, behind, same-head, same-behind, IsBlock-open, faults-head, children-head, faults-all, children-all, faults-begin}
 use Rattle.integ_block.proofs.KindLaws.{kept}
@@ -38,10 +38,10 @@ module _ (g : Over) (c : In_ok-head g) where
   same-path : c.of-reading.result.at.now.path ≡ path
   same-path = ap (λ a. a.path) c.of-reading.ensures.at
 
-  head-told : g.F.FaultSink.told c.tell_head.new.sink ≡ g.F.FaultSink.told c.args.sink.now ++ faults_at (b h path v bytes) path 0 (head h path v bytes)
+  head-told : g.F.FaultSink.listed c.tell_head.new.sink ≡ g.F.FaultSink.listed c.args.sink.now ++ faults_at (b h path v bytes) path 0 (head h path v bytes)
   head-told =
       c.in_ok-head.ensures.ok
-      ∙ ap (λ xs. g.F.FaultSink.told c.args.sink.now ++ xs) (same-head (reading c.of-reading.result) (b h path v bytes) c.of-reading.result.at.now.path path bytes c.of-reading.ensures.reading same-path)
+      ∙ ap (λ xs. g.F.FaultSink.listed c.args.sink.now ++ xs) (same-head (reading c.of-reading.result) (b h path v bytes) c.of-reading.result.at.now.path path bytes c.of-reading.ensures.reading same-path)
 
   head-count : c.in_ok-head.head.count ≡ length (head h path v bytes)
   head-count = c.in_ok-head.ensures.count ∙ ap (λ r. length (kept ends (head_holds r bytes) head_kinds)) c.of-reading.ensures.reading
@@ -51,8 +51,8 @@ module _ (g : Over) (c : In_ok-head g) where
 
   -- The reading ends with the head.
   module _ (end : list_any ends (head h path v bytes) ≡ true) where
-    told-ended : g.F.FaultSink.told c.tell_head.new.sink ≡ g.F.FaultSink.told c.args.sink.now ++ faults_of_block h path v bytes
-    told-ended = head-told ∙ ap (λ xs. g.F.FaultSink.told c.args.sink.now ++ xs) (faults-head h path v bytes end)
+    told-ended : g.F.FaultSink.listed c.tell_head.new.sink ≡ g.F.FaultSink.listed c.args.sink.now ++ faults_of_block h path v bytes
+    told-ended = head-told ∙ ap (λ xs. g.F.FaultSink.listed c.args.sink.now ++ xs) (faults-head h path v bytes end)
 
     count-ended : c.in_ok-head.head.count ≡ length (faults_of_block h path v bytes)
     count-ended = head-count ∙ sym (length-faults (b h path v bytes) path 0 (head h path v bytes)) ∙ ap length (faults-head h path v bytes end)
@@ -126,11 +126,11 @@ going g c h = sym (head-end g c) ∙ not_true c.in_ok-head.head.is_end h
 pub returns-in_ok-count-in-Some-clause-told : goal.returns-in_ok-count-in-Some-clause-told
 returns-in_ok-count-in-Some-clause-told g c =
     let d = (goal.at.returns-in_ok-count-in-Some-clause-told g c).In_ok-head in
-    let old = g.F.FaultSink.told c.args.sink.now in
+    let old = g.F.FaultSink.listed c.args.sink.now in
     let top = faults_at (b (h g d) (path g d) (v g d) (bytes g d)) (path g d) 0 (head (h g d) (path g d) (v g d) (bytes g d)) in
     let rest = map (fault_at (b (h g d) (path g d) (v g d) (bytes g d)) (path g d)) (behind (h g d) (path g d) (v g d) (bytes g d)) in
     c.in_ok-count-in-Some.ensures.ok
-    ∙ ap (λ xs. g.F.FaultSink.told c.tell_head.new.sink ++ xs) (same-behind (reading c.of-reading.result) (b (h g d) (path g d) (v g d) (bytes g d)) c.of-reading.result.at.now.path (path g d) (bytes g d) c.of-reading.ensures.reading (same-path g d))
+    ∙ ap (λ xs. g.F.FaultSink.listed c.tell_head.new.sink ++ xs) (same-behind (reading c.of-reading.result) (b (h g d) (path g d) (v g d) (bytes g d)) c.of-reading.result.at.now.path (path g d) (bytes g d) c.of-reading.ensures.reading (same-path g d))
     ∙ ap (λ xs. xs ++ rest) (head-told g d)
     ∙ append_assoc old top rest
     ∙ ap (λ xs. old ++ xs) (faults-all (h g d) (path g d) (v g d) (bytes g d) (going g d c.if-not-head.true))
@@ -159,8 +159,8 @@ returns-in_ok-count-in-Some-clause-children g c =
 pub returns-in_err-count-in-Some-clause-err_told : goal.returns-in_err-count-in-Some-clause-err_told
 returns-in_err-count-in-Some-clause-err_told g c =
     let d = (goal.at.returns-in_err-count-in-Some-clause-err_told g c).In_ok-head in
-    let now = g.F.FaultSink.told c.tell_head.new.sink in
-    let later = g.F.FaultSink.told c.tell_records.new.sink in
+    let now = g.F.FaultSink.listed c.tell_head.new.sink in
+    let later = g.F.FaultSink.listed c.tell_records.new.sink in
     let cut = subst (λ (xs : List Told). IsCut now later xs) (same-behind (reading c.of-reading.result) (b (h g d) (path g d) (v g d) (bytes g d)) c.of-reading.result.at.now.path (path g d) (bytes g d) c.of-reading.ensures.reading (same-path g d)) c.in_err-count-in-Some.ensures.err in
     OnErr-any c.from_residual-in_err-count-in-Some.result _
     (IsCut-behind _ now later _ _ _ (head-told g d) (faults-all (h g d) (path g d) (v g d) (bytes g d) (going g d c.if-not-head.true)) cut)
@@ -172,7 +172,7 @@ returns-in_err-count-in-Some-clause-err_children g c =
     let later = map seen_child c.tell_records.new.children.items in
     OnErr-any c.from_residual-in_err-count-in-Some.result _
     (subst (λ (xs : List Child). IsCut now later xs) (children-all (h g d) (path g d) (v g d) (bytes g d) (going g d c.if-not-head.true))
-    (subst (λ (r : law.Reading). IsCut now later (children_from r [] (records_of (bytes g d)))) c.of-reading.ensures.reading c.in_err-count-in-Some.ensures.err_children))
+    (subst (λ (r : law.BlockReading). IsCut now later (children_from r [] (records_of (bytes g d)))) c.of-reading.ensures.reading c.in_err-count-in-Some.ensures.err_children))
 
 -- ---- a refusal of the head's faults
 
@@ -183,8 +183,8 @@ returns-in_err-head-clause-err_told g c =
     let path = c.args.at.now.path in
     let bytes = c.args.bytes.now in
     let same-path = ap (λ a. a.path) c.of-reading.ensures.at in
-    let old = g.F.FaultSink.told c.args.sink.now in
-    let later = g.F.FaultSink.told c.tell_head.new.sink in
+    let old = g.F.FaultSink.listed c.args.sink.now in
+    let later = g.F.FaultSink.listed c.tell_head.new.sink in
     let cut = subst (λ (xs : List Told). IsCut old later xs) (same-head (reading c.of-reading.result) (b h path v bytes) c.of-reading.result.at.now.path path bytes c.of-reading.ensures.reading same-path) c.in_err-head.ensures.err in
     let begin = faults-begin h path v bytes (list_any ends (head h path v bytes)) refl in
     OnErr-any c.from_residual.result _ (IsCut-front old later _ begin.0 _ begin.1 cut)

@@ -3,8 +3,8 @@ use Rattle.std.specs.Prelude.{map}
 use Rattle.std.specs.Option.{option_to_list}
 use Rattle.std.proofs.lemmas.List.{append-nil, map-append}
 use Rattle.integ_block.specs.Entry.{seen}
-use Rattle.integ_block.specs.Reading.{reading, faults_at}
-use Rattle.integ_block.specs.Seen.{seen_child}
+use Rattle.integ_block.specs.BlockReading.{reading, faults_at}
+use Rattle.integ_block.specs.Child.{seen_child}
 use Rattle.integ_block.proofs.Reached.{IsCut-all, OnErr-any}
 use Rattle.integ_block.proofs.ReadLaws.{kinds_of-read, Leaves-read, children-read}
 use Rattle.integ_block.proofs.entry.Entry.tell_all.Goals as goal
@@ -28,7 +28,7 @@ returns-clause-ok g c =
     let b = reading e.record.reading in
     let s = seen e.record in
     let all = kinds_of-read b s e.key e.rest.now e.fault c.requires.entry in
-    c.in_ok-count.ensures.ok ∙ ap (λ ks. g.F.FaultSink.told c.args.sink.now ++ faults_at b e.record.reading.at.now.path e.record.view.offset ks) (sym all)
+    c.in_ok-count.ensures.ok ∙ ap (λ ks. g.F.FaultSink.listed c.args.sink.now ++ faults_at b e.record.reading.at.now.path e.record.view.offset ks) (sym all)
 
 pub returns-clause-count : goal.returns-clause-count
 returns-clause-count g c =

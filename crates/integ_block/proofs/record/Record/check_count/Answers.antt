@@ -4,7 +4,7 @@ use Rattle.std.proofs.lemmas.Bool.{ne_eqb, le-leb}
 use Rattle.gds_law.specs.Record.{keyed_holds}
 use Rattle.gds_law.specs.declared.kind.FaultKind.TheVariants.{FirstCount, CountTooLarge}
 use Rattle.integ_block.specs.Entry.{seen}
-use Rattle.integ_block.specs.Reading.{reading}
+use Rattle.integ_block.specs.BlockReading.{reading}
 use Rattle.integ_block.proofs.EntryLaws.{kinds_of-first, kinds_of-later}
 use Rattle.integ_block.proofs.record.Record.check_count.Goals as goal
 

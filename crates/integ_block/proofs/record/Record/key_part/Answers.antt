@@ -1,8 +1,8 @@
 use Rattle.std.proofs.Common.{◌≡◌, ◌∙◌, None, ap, arith}
 use Rattle.m_key.specs.KeyEnd.{end_in}
-use Rattle.gds_law.specs.Reading.{key_end}
+use Rattle.gds_law.specs.BlockReading.{key_end}
 use Rattle.integ_block.specs.Entry.{seen}
-use Rattle.integ_block.specs.Reading.{reading}
+use Rattle.integ_block.specs.BlockReading.{reading}
 use Rattle.integ_block.proofs.EntryLaws.{kinds_of-long, kinds_of-end}
 use Rattle.integ_block.proofs.KeyEnds.{IsKeyPart-found, key_end-none, key_end-late, too_long, not_too_long, without_end}
 use Rattle.integ_block.proofs.record.Record.key_part.Goals as goal

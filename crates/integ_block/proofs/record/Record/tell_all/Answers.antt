@@ -2,8 +2,8 @@ use Rattle.std.proofs.Common.{◌++◌, sym, ◌∙◌, ap}
 use Rattle.std.specs.Prelude.{map}
 use Rattle.std.proofs.lemmas.List.{append-nil}
 use Rattle.integ_block.specs.Entry.{seen}
-use Rattle.integ_block.specs.Reading.{reading}
-use Rattle.integ_block.specs.Seen.{seen_child}
+use Rattle.integ_block.specs.BlockReading.{reading}
+use Rattle.integ_block.specs.Child.{seen_child}
 use Rattle.integ_block.proofs.ReadLaws.{Leaves-ended, children-ended}
 use Rattle.integ_block.proofs.record.Record.tell_all.Goals as goal
 

@@ -5,23 +5,23 @@ use Rattle.std.proofs.lemmas.List.Elements.{All-rest, All-head}
 use Rattle.gds_block.specs.Record.{Record, AreRecords, StandsIn, bytes_left, records_of}
 use Rattle.gds_block.specs.View.{record_of}
 use Rattle.gds_law.specs.Block.{children_from, fault_at, kinds_from, size_kinds}
-use Rattle.gds_law.specs.Reading as law
+use Rattle.gds_law.specs.BlockReading as law
 use Rattle.gds_law.specs.Record.{kinds_of}
-use Rattle.gds_law.specs.Seen.{Told}
+use Rattle.gds_law.specs.Fault.{Told}
 use Rattle.gds_law.specs.Visit.{Child}
 use Rattle.integ_block.specs.Entry.{children_at, IsNext, Leaves}
-use Rattle.integ_block.specs.Reading.{reading, faults_at}
-use Rattle.integ_block.specs.Seen.{seen_child}
+use Rattle.integ_block.specs.BlockReading.{reading, faults_at}
+use Rattle.integ_block.specs.Child.{seen_child}
 use Rattle.integ_block.proofs.Reached.{Reached, Reached-more, Reached-all, IsCut-more, IsCut-stop, OnErr-any}
 use Rattle.integ_block.proofs.BlockLaws.{behind, length-faults, told-behind, told-next, told-stop, children-next, children-stop, AreRecords-next}
-use Rattle.integ_block.proofs.reading.Reading.tell_records.Given.{Over}
-use Rattle.integ_block.proofs.reading.Reading.tell_records.Goals as goal
-use Rattle.integ_block.proofs.reading.Reading.tell_records.Goals.{After-tell_all}
+use Rattle.integ_block.proofs.reading.BlockReading.tell_records.Given.{Over}
+use Rattle.integ_block.proofs.reading.BlockReading.tell_records.Goals as goal
+use Rattle.integ_block.proofs.reading.BlockReading.tell_records.Goals.{After-tell_all}
 
 -- ---- before a record is taken
 
 module _ (g : Over) (c : After-tell_all g) where
-  abbrev b : law.Reading
+  abbrev b : law.BlockReading
   b = reading c.args.self.now
 
   abbrev bytes : List ℕ
@@ -39,13 +39,13 @@ module _ (g : Over) (c : After-tell_all g) where
   abbrev previous : List ℕ
   previous = c.as_slice.result.now
 
-  abbrev s : law.Seen
+  abbrev s : law.PlacedRecord
   s = record { previous = previous; record_ = r }
 
-  told-here : Reached (g.F.FaultSink.told c.args.sink.now) (g.F.FaultSink.told c.loop-view.sink) (map (fault_at b path) (kinds_from b bytes c.loop-view.end previous (r ∷ rs))) (map (fault_at b path) (kinds_from b bytes 16 [] (records_of bytes))) c.loop-view.count
+  told-here : Reached (g.F.FaultSink.listed c.args.sink.now) (g.F.FaultSink.listed c.loop-view.sink) (map (fault_at b path) (kinds_from b bytes c.loop-view.end previous (r ∷ rs))) (map (fault_at b path) (kinds_from b bytes 16 [] (records_of bytes))) c.loop-view.count
   told-here =
-      subst (λ (p : List ℕ). Reached (g.F.FaultSink.told c.args.sink.now) (g.F.FaultSink.told c.loop-view.sink) (map (fault_at b path) (kinds_from b bytes c.loop-view.end p (r ∷ rs))) (map (fault_at b path) (kinds_from b bytes 16 [] (records_of bytes))) c.loop-view.count) (sym c.as_slice.ensures.value)
-      (subst (λ (xs : List Record). Reached (g.F.FaultSink.told c.args.sink.now) (g.F.FaultSink.told c.loop-view.sink) (map (fault_at b path) (kinds_from b bytes c.loop-view.end c.loop-view.previous.items xs)) (map (fault_at b path) (kinds_from b bytes 16 [] (records_of bytes))) c.loop-view.count) c.in-Some.ensures.steps
+      subst (λ (p : List ℕ). Reached (g.F.FaultSink.listed c.args.sink.now) (g.F.FaultSink.listed c.loop-view.sink) (map (fault_at b path) (kinds_from b bytes c.loop-view.end p (r ∷ rs))) (map (fault_at b path) (kinds_from b bytes 16 [] (records_of bytes))) c.loop-view.count) (sym c.as_slice.ensures.value)
+      (subst (λ (xs : List Record). Reached (g.F.FaultSink.listed c.args.sink.now) (g.F.FaultSink.listed c.loop-view.sink) (map (fault_at b path) (kinds_from b bytes c.loop-view.end c.loop-view.previous.items xs)) (map (fault_at b path) (kinds_from b bytes 16 [] (records_of bytes))) c.loop-view.count) c.in-Some.ensures.steps
       c.loop-view.invariant.told)
 
   children-here : Reached (map seen_child c.args.children.now.items) (map seen_child c.loop-view.children.items) (children_from b previous (r ∷ rs)) (children_from b [] (records_of bytes)) c.loop-view.invariant.children.0
@@ -62,13 +62,13 @@ module _ (g : Over) (c : After-tell_all g) where
 
 -- a record with which the reading ends, after all of its kinds were told
 module _ (g : Over) (c : After-tell_all g) where
-  told-all : (n : ℕ) → Leaves (b g c) (s g c) None → g.F.FaultSink.told c.tell_all.new.sink ≡ g.F.FaultSink.told c.loop-view.sink ++ faults_at (b g c) (path g c) (r g c).offset (kinds_of (b g c) (s g c)) → n ≡ length (kinds_of (b g c) (s g c))
-      → (g.F.FaultSink.told c.tell_all.new.sink ≡ g.F.FaultSink.told c.args.sink.now ++ map (fault_at (b g c) (path g c)) (kinds_from (b g c) (bytes g c) 16 [] (records_of (bytes g c))))
+  told-all : (n : ℕ) → Leaves (b g c) (s g c) None → g.F.FaultSink.listed c.tell_all.new.sink ≡ g.F.FaultSink.listed c.loop-view.sink ++ faults_at (b g c) (path g c) (r g c).offset (kinds_of (b g c) (s g c)) → n ≡ length (kinds_of (b g c) (s g c))
+      → (g.F.FaultSink.listed c.tell_all.new.sink ≡ g.F.FaultSink.listed c.args.sink.now ++ map (fault_at (b g c) (path g c)) (kinds_from (b g c) (bytes g c) 16 [] (records_of (bytes g c))))
       × (c.loop-view.count + n ≡ length (map (fault_at (b g c) (path g c)) (kinds_from (b g c) (bytes g c) 16 [] (records_of (bytes g c)))))
   told-all n leaves ok count =
       Reached-all _ _ _ _
-      (Reached-more _ (g.F.FaultSink.told c.loop-view.sink) _ (faults_at (b g c) (path g c) (r g c).offset (kinds_of (b g c) (s g c))) [] _ c.loop-view.count (c.loop-view.count + n)
-      (subst (λ (xs : List Told). Reached (g.F.FaultSink.told c.args.sink.now) (g.F.FaultSink.told c.loop-view.sink) xs (map (fault_at (b g c) (path g c)) (kinds_from (b g c) (bytes g c) 16 [] (records_of (bytes g c)))) c.loop-view.count)
+      (Reached-more _ (g.F.FaultSink.listed c.loop-view.sink) _ (faults_at (b g c) (path g c) (r g c).offset (kinds_of (b g c) (s g c))) [] _ c.loop-view.count (c.loop-view.count + n)
+      (subst (λ (xs : List Told). Reached (g.F.FaultSink.listed c.args.sink.now) (g.F.FaultSink.listed c.loop-view.sink) xs (map (fault_at (b g c) (path g c)) (kinds_from (b g c) (bytes g c) 16 [] (records_of (bytes g c)))) c.loop-view.count)
       (told-stop (b g c) (bytes g c) c.loop-view.end (previous g c) (r g c) (rs g c) c.requires.used (are g c) leaves (path g c)) (told-here g c))
       ok (omega (arith, count, length-faults (b g c) (path g c) (r g c).offset (kinds_of (b g c) (s g c)))))
 
@@ -86,8 +86,8 @@ loop-view-preserved g c =
     record {
       can = tt;
       finite = tt;
-      told = Reached-more _ (g.F.FaultSink.told c.loop-view.sink) _ (faults_at (b g d) (path g d) (r g d).offset (kinds_of (b g d) (s g d))) _ _ c.loop-view.count _
-          (subst (λ (xs : List Told). Reached (g.F.FaultSink.told c.args.sink.now) (g.F.FaultSink.told c.loop-view.sink) xs (map (fault_at (b g d) (path g d)) (kinds_from (b g d) (bytes g d) 16 [] (records_of (bytes g d)))) c.loop-view.count)
+      told = Reached-more _ (g.F.FaultSink.listed c.loop-view.sink) _ (faults_at (b g d) (path g d) (r g d).offset (kinds_of (b g d) (s g d))) _ _ c.loop-view.count _
+          (subst (λ (xs : List Told). Reached (g.F.FaultSink.listed c.args.sink.now) (g.F.FaultSink.listed c.loop-view.sink) xs (map (fault_at (b g d) (path g d)) (kinds_from (b g d) (bytes g d) 16 [] (records_of (bytes g d)))) c.loop-view.count)
           (told-next (b g d) (bytes g d) c.loop-view.end (previous g d) (r g d) (rs g d) (path g d) end key same next) (told-here g d))
           c.in_ok-told.ensures.ok (omega (arith, c.in_ok-told.ensures.count, length-faults (b g d) (path g d) (r g d).offset (kinds_of (b g d) (s g d))));
       children = (
@@ -134,8 +134,8 @@ pub returns-in_err-told-clause-err : goal.returns-in_err-told-clause-err
 returns-in_err-told-clause-err g c =
     let d = (goal.at.returns-in_err-told-clause-err g c).After-tell_all in
     OnErr-any c.from_residual.result _
-    (IsCut-more _ (g.F.FaultSink.told c.loop-view.sink) _ (faults_at (b g d) (path g d) (r g d).offset (kinds_of (b g d) (s g d))) (behind (b g d) (bytes g d) c.loop-view.end (previous g d) (r g d) (rs g d) (path g d)) _ c.loop-view.count
-    (subst (λ (xs : List Told). Reached (g.F.FaultSink.told c.args.sink.now) (g.F.FaultSink.told c.loop-view.sink) xs (map (fault_at (b g d) (path g d)) (kinds_from (b g d) (bytes g d) 16 [] (records_of (bytes g d)))) c.loop-view.count)
+    (IsCut-more _ (g.F.FaultSink.listed c.loop-view.sink) _ (faults_at (b g d) (path g d) (r g d).offset (kinds_of (b g d) (s g d))) (behind (b g d) (bytes g d) c.loop-view.end (previous g d) (r g d) (rs g d) (path g d)) _ c.loop-view.count
+    (subst (λ (xs : List Told). Reached (g.F.FaultSink.listed c.args.sink.now) (g.F.FaultSink.listed c.loop-view.sink) xs (map (fault_at (b g d) (path g d)) (kinds_from (b g d) (bytes g d) 16 [] (records_of (bytes g d)))) c.loop-view.count)
     (told-behind (b g d) (bytes g d) c.loop-view.end (previous g d) (r g d) (rs g d) (path g d)) (told-here g d))
     c.in_err-told.ensures.err)
 
@@ -158,8 +158,8 @@ returns-clause-count g c =
     let bytes = c.args.bytes.now in
     let path = c.args.self.now.at.now.path in
     let kinds = size_kinds b.level (bytes_left bytes c.loop-view.end) in
-    let at_end = subst (λ (xs : List Record). Reached (g.F.FaultSink.told c.args.sink.now) (g.F.FaultSink.told c.loop-view.sink) (map (fault_at b path) (kinds_from b bytes c.loop-view.end c.loop-view.previous.items xs)) (map (fault_at b path) (kinds_from b bytes 16 [] (records_of bytes))) c.loop-view.count) c.in-None.ensures.steps.0 c.loop-view.invariant.told in
-    (Reached-all _ _ _ _ (Reached-more _ (g.F.FaultSink.told c.loop-view.sink) _ (faults_at b path c.loop-view.end kinds) [] _ c.loop-view.count _
-    (subst (λ (xs : List Told). Reached (g.F.FaultSink.told c.args.sink.now) (g.F.FaultSink.told c.loop-view.sink) xs (map (fault_at b path) (kinds_from b bytes 16 [] (records_of bytes))) c.loop-view.count) (sym (append-nil (faults_at b path c.loop-view.end kinds))) at_end)
+    let at_end = subst (λ (xs : List Record). Reached (g.F.FaultSink.listed c.args.sink.now) (g.F.FaultSink.listed c.loop-view.sink) (map (fault_at b path) (kinds_from b bytes c.loop-view.end c.loop-view.previous.items xs)) (map (fault_at b path) (kinds_from b bytes 16 [] (records_of bytes))) c.loop-view.count) c.in-None.ensures.steps.0 c.loop-view.invariant.told in
+    (Reached-all _ _ _ _ (Reached-more _ (g.F.FaultSink.listed c.loop-view.sink) _ (faults_at b path c.loop-view.end kinds) [] _ c.loop-view.count _
+    (subst (λ (xs : List Told). Reached (g.F.FaultSink.listed c.args.sink.now) (g.F.FaultSink.listed c.loop-view.sink) xs (map (fault_at b path) (kinds_from b bytes 16 [] (records_of bytes))) c.loop-view.count) (sym (append-nil (faults_at b path c.loop-view.end kinds))) at_end)
     c.in_ok-last.ensures.ok (omega (arith, c.in_ok-last.ensures.count, length-faults b path c.loop-view.end kinds)))).1
     ∙ length-map (kinds_from b bytes 16 [] (records_of bytes)) (fault_at b path)

@@ -4,11 +4,11 @@ use Rattle.gds_law.specs.Block.{head_holds}
 use Rattle.gds_law.specs.Kinds.{ends}
 use Rattle.gds_law.specs.declared.kind.FaultKind.{FaultKind}
 use Rattle.gds_law.specs.declared.kind.FaultKind.TheVariants.{ShortHeader}
-use Rattle.integ_block.specs.Reading.{reading, faults_at}
+use Rattle.integ_block.specs.BlockReading.{reading, faults_at}
 use Rattle.integ_block.proofs.Reached.{Reached, Reached-more}
 use Rattle.integ_block.proofs.KindLaws.{kept, left-not, left-yes}
-use Rattle.integ_block.proofs.reading.Reading.tell_head.Goals as goal
-use Rattle.integ_block.proofs.reading.Reading.tell_head.Goals.{then-head_holds+in_ok-tell+else-ends, else-head_holds}
+use Rattle.integ_block.proofs.reading.BlockReading.tell_head.Goals as goal
+use Rattle.integ_block.proofs.reading.BlockReading.tell_head.Goals.{then-head_holds+in_ok-tell+else-ends, else-head_holds}
 
 pub loop-kind-preserved : goal.loop-kind-preserved
 loop-kind-preserved g c =
@@ -18,7 +18,7 @@ loop-kind-preserved g c =
     let kinds = c.args.kinds.now in
     let i = c.loop-kind.kind-index in
     let k = get_or kinds i ShortHeader in
-    let told = g.F.FaultSink.told in
+    let told = g.F.FaultSink.listed in
     let whole = faults_at b path 0 (kept ends test kinds) in
     let inv = c.loop-kind.invariant in
     let within = c.loop-kind-test.true in

@@ -1,7 +1,7 @@
 -- What clauses see of where a block stands, and of its children.
 use Rattle.std.specs.Prelude.{option_map}
 use Rattle.gds_law.specs.Visit as law
-use Rattle.gds_law.specs.Seen.{role_of}
+use Rattle.gds_law.specs.Fault.{role_of}
 use Rattle.integ_block.specs.declared.at.At.{At}
 use Rattle.integ_block.specs.declared.at.Child.{Child}
 
