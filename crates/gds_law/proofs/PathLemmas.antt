@@ -11,7 +11,7 @@ use Rattle.gds_law.specs.Path.{Steps, children_at, child_at, visit_from, visit_a
 use Rattle.gds_law.proofs.Membership.{IsIn, in_map, in_flat_map}
 use Rattle.gds_law.proofs.RankLemmas.{rank, falls}
 
-step_total : IsTotalOrder step_cmp
+pub step_total : IsTotalOrder step_cmp
 step_total = then_total (on_total (λ (p : ℕ × ℕ). p.1) nat_cmp_total) (on_total (λ (p : ℕ × ℕ). p.0) nat_cmp_total)
 
 pub path_total : IsTotalOrder path_cmp

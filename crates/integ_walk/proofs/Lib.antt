@@ -1,0 +1,3 @@
+pub mod ApartLemmas
+pub mod WalkLemmas
+pub mod MarkLemmas

@@ -1,0 +1,6 @@
+use Rattle.std.proofs.Common.{refl}
+use Rattle.integ_walk.proofs.MarkLemmas.{AreMarks}
+use Rattle.integ_walk.proofs.probe.Goals as goal
+
+pub returns : goal.returns
+returns c n = refl

@@ -1,0 +1,8 @@
+//! probe
+#![tactic(auto)]
+
+ghost use Rattle.std.specs.Prelude.{◌≡◌, ℕ};
+
+pub fn probe()
+    ensures { (n : ℕ) → n ≡ n }
+{}
