@@ -1,3 +1,4 @@
-pub mod ApartLemmas
+pub mod AheadLemmas
 pub mod WalkLemmas
 pub mod MarkLemmas
+pub mod ProgressLemmas

@@ -12,32 +12,24 @@ use Rattle.gds_law.specs.Path.{Steps, visit_at, path_cmp, IsTakenBefore, AreKept
 use Rattle.gds_law.specs.Tree.{double_at, double_faults, faults_at, is_among, ends_in, is_reached}
 use Rattle.gds_law.proofs.Membership.{IsIn, in_from_Contains, Contains-from_in, in_left, in_right, in_either}
 use Rattle.gds_law.proofs.SoundKept.{any_in, in_any, same_tests, kept_leads, among_from, from_among, at_kept}
-use Rattle.integ_walk.specs.Waiting.{Waiting, path_to}
+use Rattle.integ_walk.specs.Link.{Link, path_to}
+use Rattle.integ_walk.specs.Progress.{EndsIn}
 use Rattle.integ_walk.proofs.WalkLemmas.{IsAt, front-step, kept_reached, before_next, sooner_done, nothing_below}
 
 module _ (image : List ℕ) (kept reached : List Steps) (ak : AreKept image kept) (ar : AreReached image kept reached) where
-  -- One of these paths is kept and ends in the block.
-  pub record EndsAmong (done : List Steps) (block : ℕ) : Type 0 where
-    pub path : Steps
-    pub there : IsIn done path
-    pub is_kept : Contains kept path
-    pub visit : Visit
-    pub leads : visit_at image path ≡ Some visit
-    pub same : visit.block ≡ block
-
   -- The marked blocks are those in which kept ones of these paths end.
   abbrev pub AreMarks : List Steps → (ℕ → Bool) → Type 0
-  AreMarks done marked = (block : ℕ) → (marked block ≡ true) ↔ EndsAmong done block
+  AreMarks done marked = (block : ℕ) → (marked block ≡ true) ↔ EndsIn image kept done block
 
   not_both_ways : (b : Bool) → b ≡ true → b ≡ false → ⊥
   not_both_ways b h k = absurd (cc)
 
   -- The next path is kept exactly where its block isn't marked.
-  pub marked_not_kept : (done rest : List Steps) (q : Steps) (v : Visit) (ws : List Waiting) (marked : ℕ → Bool)
+  pub marked_not_kept : (done rest : List Steps) (q : Steps) (v : Visit) (ws : List Link) (marked : ℕ → Bool)
       → IsAt image kept reached ak ar done rest q v ws → AreMarks done marked → marked v.block ≡ true → Contains kept q → ⊥
   marked_not_kept done rest q v ws marked a m h c =
       let e = (m v.block).0 h in
-      let low = before_next image kept reached ak ar done rest q a.parts e.path e.there in
+      let low = before_next image kept reached ak ar done rest q a.parts e.path (in_from_Contains done e.path e.there) in
       elim ((ak.exactly q).0 c) [
         | inl nil ↦ nothing_below image kept reached ak ar e.path (subst (λ x. path_cmp e.path x ≡ Less) nil low)
         | inr k ↦
@@ -45,7 +37,7 @@ module _ (image : List ℕ) (kept reached : List Steps) (ak : AreKept image kept
             k.2 (record { earlier = e.path; kept_too = e.is_kept; before = low; visit = e.visit; leads = e.leads; same = e.same ∙ ap (λ (w : Visit). w.block) same })
       ]
 
-  pub unmarked_kept : (done rest : List Steps) (q : Steps) (v : Visit) (ws : List Waiting) (marked : ℕ → Bool)
+  pub unmarked_kept : (done rest : List Steps) (q : Steps) (v : Visit) (ws : List Link) (marked : ℕ → Bool)
       → IsAt image kept reached ak ar done rest q v ws → AreMarks done marked → marked v.block ≡ false → Contains kept q
   unmarked_kept done rest q v ws marked a m h =
       let c : Contains reached q = Contains-from_in reached q (subst (λ xs. IsIn xs q) (sym a.parts) (in_right done (q ∷ rest) q (inl refl))) in
@@ -55,7 +47,7 @@ module _ (image : List ℕ) (kept reached : List Steps) (ak : AreKept image kept
             let same : k.0 ≡ v = cc (a.leads, k.1.leads) in
             inr (k.0, k.1, λ t. not_both_ways (marked v.block) ((m v.block).1 (record {
               path = t.earlier;
-              there = sooner_done image kept reached ak ar done rest q a.parts t.earlier (kept_reached image kept reached ak ar t.earlier t.kept_too) t.before;
+              there = Contains-from_in done t.earlier (sooner_done image kept reached ak ar done rest q a.parts t.earlier (kept_reached image kept reached ak ar t.earlier t.kept_too) t.before);
               is_kept = t.kept_too;
               visit = t.visit;
               leads = t.leads;
@@ -66,12 +58,12 @@ module _ (image : List ℕ) (kept reached : List Steps) (ak : AreKept image kept
   -- ---- the marks behind it
 
   pub marks_none : AreMarks [] (λ block. false)
-  marks_none block = ((λ h. absurd (cc)), (λ e. absurd e.there))
+  marks_none block = ((λ h. absurd (cc)), (λ e. absurd (in_from_Contains [] e.path e.there)))
 
   pub marks_past : (done : List Steps) (q : Steps) (marked : ℕ → Bool) → AreMarks done marked → (Contains kept q → ⊥) → AreMarks (done ++ q ∷ []) marked
   marks_past done q marked m none block = (
-    λ h. let e = (m block).0 h in record { path = e.path; there = in_left done (q ∷ []) e.path e.there; is_kept = e.is_kept; visit = e.visit; leads = e.leads; same = e.same },
-    λ e. (m block).1 (record { path = e.path; there = there e.path e.is_kept (in_either done (q ∷ []) e.path e.there); is_kept = e.is_kept; visit = e.visit; leads = e.leads; same = e.same }),
+    λ h. let e = (m block).0 h in record { path = e.path; there = Contains-from_in (done ++ q ∷ []) e.path (in_left done (q ∷ []) e.path (in_from_Contains done e.path e.there)); is_kept = e.is_kept; visit = e.visit; leads = e.leads; same = e.same },
+    λ e. (m block).1 (record { path = e.path; there = Contains-from_in done e.path (there e.path e.is_kept (in_either done (q ∷ []) e.path (in_from_Contains (done ++ q ∷ []) e.path e.there))); is_kept = e.is_kept; visit = e.visit; leads = e.leads; same = e.same }),
   )
     where
       there : (p : Steps) → Contains kept p → IsIn done p ⊎ IsIn (q ∷ []) p → IsIn done p
@@ -87,24 +79,24 @@ module _ (image : List ℕ) (kept reached : List Steps) (ak : AreKept image kept
       → MarksAlso marked v.block more → AreMarks (done ++ q ∷ []) more
   marks_into done q v marked more m c leads also block = (to, from)
     where
-      to : more block ≡ true → EndsAmong (done ++ q ∷ []) block
+      to : more block ≡ true → EndsIn image kept (done ++ q ∷ []) block
       to h =
           elim (or_cases (block == v.block) (marked block) (sym (also block) ∙ h)) [
-            | inl e ↦ record { path = q; there = in_right done (q ∷ []) q (inl refl); is_kept = c; visit = v; leads = leads; same = sym (eqb-true block v.block e) }
+            | inl e ↦ record { path = q; there = Contains-from_in (done ++ q ∷ []) q (in_right done (q ∷ []) q (inl refl)); is_kept = c; visit = v; leads = leads; same = sym (eqb-true block v.block e) }
             | inr e ↦
                 let k = (m block).0 e in
-                record { path = k.path; there = in_left done (q ∷ []) k.path k.there; is_kept = k.is_kept; visit = k.visit; leads = k.leads; same = k.same }
+                record { path = k.path; there = Contains-from_in (done ++ q ∷ []) k.path (in_left done (q ∷ []) k.path (in_from_Contains done k.path k.there)); is_kept = k.is_kept; visit = k.visit; leads = k.leads; same = k.same }
           ]
 
-      by : (e : EndsAmong (done ++ q ∷ []) block) → IsIn done e.path ⊎ IsIn (q ∷ []) e.path → more block ≡ true
-      by e (inl i) = also block ∙ or_right (block == v.block) (marked block) ((m block).1 (record { path = e.path; there = i; is_kept = e.is_kept; visit = e.visit; leads = e.leads; same = e.same }))
+      by : (e : EndsIn image kept (done ++ q ∷ []) block) → IsIn done e.path ⊎ IsIn (q ∷ []) e.path → more block ≡ true
+      by e (inl i) = also block ∙ or_right (block == v.block) (marked block) ((m block).1 (record { path = e.path; there = Contains-from_in done e.path i; is_kept = e.is_kept; visit = e.visit; leads = e.leads; same = e.same }))
       by e (inr (inl p)) =
           let same : v ≡ e.visit = cc (leads, ap (visit_at image) p, e.leads) in
           also block ∙ or_left (block == v.block) (marked block) (eq-eqb block v.block (sym (ap (λ (w : Visit). w.block) same ∙ e.same)))
       by e (inr (inr j)) = absurd j
 
-      from : EndsAmong (done ++ q ∷ []) block → more block ≡ true
-      from e = by e (in_either done (q ∷ []) e.path e.there)
+      from : EndsIn image kept (done ++ q ∷ []) block → more block ≡ true
+      from e = by e (in_either done (q ∷ []) e.path (in_from_Contains (done ++ q ∷ []) e.path e.there))
 
   -- Once all are followed these are the blocks that kept paths end in.
   pub marks_all : (marked : ℕ → Bool) → AreMarks reached marked → (block : ℕ) → marked block ≡ is_reached image kept block
@@ -125,7 +117,7 @@ module _ (image : List ℕ) (kept reached : List Steps) (ak : AreKept image kept
           let l = kept_leads image kept r.0 ak c in
           (m block).1 (record {
             path = r.0;
-            there = in_from_Contains reached r.0 (kept_reached image kept reached ak ar r.0 c);
+            there = kept_reached image kept reached ak ar r.0 c;
             is_kept = c;
             visit = l.0;
             leads = l.1;

@@ -15,8 +15,9 @@ use Rattle.gds_law.proofs.SoundBlocks.{RisingFrom, children_apart, above}
 use Rattle.gds_law.proofs.SoundTrees.{leads_through}
 use Rattle.gds_law.proofs.SoundPaths.{step_leads}
 use Rattle.gds_law.proofs.SoundKept.{reached_leads}
-use Rattle.integ_walk.specs.Waiting.{Waiting, path_to, waiting_at}
-use Rattle.integ_walk.proofs.ApartLemmas.{IsApart, below_if_apart, apart_longer, apart_at, below_longer}
+use Rattle.integ_walk.specs.Link.{Link, path_to, links_at}
+use Rattle.integ_walk.specs.Progress.{GoesOn, IsAhead}
+use Rattle.integ_walk.proofs.AheadLemmas.{ahead_at, ahead_longer, ahead_below, below_longer}
 
 not_below : (p : Steps) → path_cmp p p ≡ Less → ⊥
 not_below = not_below_itself Steps path_cmp path_total path_exact
@@ -25,9 +26,6 @@ not_both : (p q : Steps) → path_cmp p q ≡ Less → path_cmp q p ≡ Less →
 not_both = not_both_below Steps path_cmp path_total path_exact
 
 -- ---- what goes on from a path
-
-abbrev pub GoesOn : Steps → Steps → Type 0
-GoesOn q p = (t : Steps) × (p ≡ q ++ t)
 
 -- It doesn't stand before it.
 not_before : (q p : Steps) → GoesOn q p → path_cmp p q ≡ Less → ⊥
@@ -46,64 +44,64 @@ front-step q s =
     let len : length (q ++ s ∷ []) - 1 ≡ length q = omega (arith, length-append q (s ∷ [])) in
     ap (λ n. take n (q ++ s ∷ [])) len ∙ take-append_seam q (s ∷ [])
 
--- ---- records that part from one another
+-- ---- links in order
 
-abbrev pub AllApart : List Waiting → Type 0
-AllApart [] = ⊤
-AllApart (w ∷ ws) = ((x : Waiting) → IsIn ws x → IsApart (path_to w) (path_to x)) × AllApart ws
+abbrev pub AllAhead : List Link → Type 0
+AllAhead [] = ⊤
+AllAhead (w ∷ ws) = ((x : Link) → IsIn ws x → IsAhead (path_to w) (path_to x)) × AllAhead ws
 
-both_apart : (xs ws : List Waiting) → AllApart xs → AllApart ws → ((x w : Waiting) → IsIn xs x → IsIn ws w → IsApart (path_to x) (path_to w)) → AllApart (xs ++ ws)
-both_apart [] ws a b h = b
-both_apart (x ∷ xs) ws a b h = (
+both_ahead : (xs ws : List Link) → AllAhead xs → AllAhead ws → ((x w : Link) → IsIn xs x → IsIn ws w → IsAhead (path_to x) (path_to w)) → AllAhead (xs ++ ws)
+both_ahead [] ws a b h = b
+both_ahead (x ∷ xs) ws a b h = (
   λ y i. elim (in_either xs ws y i) [ inl j ↦ a.0 y j | inr j ↦ h x y (inl refl) j ],
-  both_apart xs ws a.1 b (λ y w i j. h y w (inr i) j),
+  both_ahead xs ws a.1 b (λ y w i j. h y w (inr i) j),
 )
 
-from_map : {A B : Type 0} (f : A → B) (xs : List A) (y : B) → IsIn (map f xs) y → (x : A) × IsIn xs x × (f x ≡ y)
+pub from_map : {A B : Type 0} (f : A → B) (xs : List A) (y : B) → IsIn (map f xs) y → (x : A) × IsIn xs x × (f x ≡ y)
 from_map f [] y i = absurd i
 from_map f (x ∷ xs) y (inl e) = (x, inl refl, e)
 from_map f (x ∷ xs) y (inr i) = let r = from_map f xs y i in (r.0, inr r.1, r.2)
 
 module _ (path : Steps) (block level : ℕ) where
-  abbrev here : Child → Waiting
+  abbrev here : Child → Link
   here c = record { path = path; block = block; level = level; child = c }
 
-  siblings_apart : (low : ℕ) (cs : List Child) → RisingFrom low cs → AllApart (map here cs)
-  siblings_apart low [] r = tt
-  siblings_apart low (c ∷ cs) r = (
+  siblings_ahead : (low : ℕ) (cs : List Child) → RisingFrom low cs → AllAhead (map here cs)
+  siblings_ahead low [] r = tt
+  siblings_ahead low (c ∷ cs) r = (
     λ x i. let k = from_map here cs x i in
     let more = above (suc c.offset) cs k.0 r.1 k.1 in
-    subst (λ (w : Waiting). IsApart (path ++ (block, c.offset) ∷ []) (path_to w)) k.2 (apart_at path block c.offset k.0.offset (omega arith)),
-    siblings_apart (suc c.offset) cs r.1,
+    subst (λ (w : Link). IsAhead (path ++ (block, c.offset) ∷ []) (path_to w)) k.2 (ahead_at path block c.offset k.0.offset (omega arith)),
+    siblings_ahead (suc c.offset) cs r.1,
   )
 
-  apart_below : (cs : List Child) (w : Waiting) (x : Waiting) → IsApart path (path_to x) → IsIn (map here cs) w → IsApart (path_to w) (path_to x)
-  apart_below cs w x h i =
+  below_ahead : (cs : List Child) (w : Link) (x : Link) → IsAhead path (path_to x) → IsIn (map here cs) w → IsAhead (path_to w) (path_to x)
+  below_ahead cs w x h i =
       let k = from_map here cs w i in
-      subst (λ (y : Waiting). IsApart (path_to y) (path_to x)) k.2 (apart_longer path ((block, k.0.offset) ∷ []) (path_to x) h)
+      subst (λ (y : Link). IsAhead (path_to y) (path_to x)) k.2 (ahead_longer path ((block, k.0.offset) ∷ []) (path_to x) h)
 
 -- ---- the paths of a file
 
--- the record of a child of the block that a path leads to
-abbrev child_of : List ℕ → Steps → Visit → Child → Waiting
-child_of image q v c = here q v.block (level_of (block_of image v.block)) c
+-- the link of a child of the block that a path leads to
+abbrev link_of : List ℕ → Steps → Visit → Child → Link
+link_of image q v c = here q v.block (level_of (block_of image v.block)) c
 
 module _ (image : List ℕ) (kept reached : List Steps) (ak : AreKept image kept) (ar : AreReached image kept reached) where
-  -- Done are some paths from the front, and these records lead to all that are left.
-  pub record Walked (done rest : List Steps) (ws : List Waiting) : Type 0 where
+  -- Done are some paths from the front, and these links lead on to all that are left.
+  pub record Walked (done rest : List Steps) (ws : List Link) : Type 0 where
     pub parts : reached ≡ done ++ rest
-    pub led : (p : Steps) → IsIn rest p → (w : Waiting) × IsIn ws w × GoesOn (path_to w) p
-    pub left : (w : Waiting) → IsIn ws w → IsIn rest (path_to w) × (visit_at image (path_to w) ≡ Some w.child.visit)
-    pub apart : AllApart ws
+    pub led : (p : Steps) → IsIn rest p → (w : Link) × IsIn ws w × GoesOn (path_to w) p
+    pub left : (w : Link) → IsIn ws w → IsIn rest (path_to w) × (visit_at image (path_to w) ≡ Some w.child.visit)
+    pub in_order : AllAhead ws
 
-  -- The next one is q, which leads to v. All that are left but it go on from it or are led to by the records.
-  pub record IsAt (done rest : List Steps) (q : Steps) (v : Visit) (ws : List Waiting) : Type 0 where
+  -- The next one is q, which leads to v. All that are left but it go on from it or are led to by the links.
+  pub record IsAt (done rest : List Steps) (q : Steps) (v : Visit) (ws : List Link) : Type 0 where
     pub parts : reached ≡ done ++ q ∷ rest
     pub leads : visit_at image q ≡ Some v
-    pub led : (p : Steps) → IsIn rest p → GoesOn q p ⊎ ((w : Waiting) × IsIn ws w × GoesOn (path_to w) p)
-    pub left : (w : Waiting) → IsIn ws w → IsIn rest (path_to w) × (visit_at image (path_to w) ≡ Some w.child.visit)
-    pub ahead : (w : Waiting) → IsIn ws w → IsApart q (path_to w)
-    pub apart : AllApart ws
+    pub led : (p : Steps) → IsIn rest p → GoesOn q p ⊎ ((w : Link) × IsIn ws w × GoesOn (path_to w) p)
+    pub left : (w : Link) → IsIn ws w → IsIn rest (path_to w) × (visit_at image (path_to w) ≡ Some w.child.visit)
+    pub ahead : (w : Link) → IsIn ws w → IsAhead q (path_to w)
+    pub in_order : AllAhead ws
 
   rising : Rising path_cmp reached
   rising = Rising-from_sorted path_cmp reached ar.in_order
@@ -169,7 +167,7 @@ module _ (image : List ℕ) (kept reached : List Steps) (ak : AreKept image kept
 
   -- ---- the next path
 
-  next_is : (done rest : List Steps) (w : Waiting) (ws : List Waiting) → Walked done rest (w ∷ ws) → (r : Steps) (more : List Steps) → rest ≡ r ∷ more → r ≡ path_to w
+  next_is : (done rest : List Steps) (w : Link) (ws : List Link) → Walked done rest (w ∷ ws) → (r : Steps) (more : List Steps) → rest ≡ r ∷ more → r ≡ path_to w
   next_is done rest w ws s r more e =
       elim (subst (λ xs. IsIn xs (path_to w)) e (s.left w (inl refl)).0) [
         | inl same ↦ same
@@ -179,23 +177,23 @@ module _ (image : List ℕ) (kept reached : List Steps) (ak : AreKept image kept
             absurd (first l.0 l.1 l.2 (behind_next done more r parts (path_to w) i))
       ]
     where
-      first : (x : Waiting) → IsIn (w ∷ ws) x → GoesOn (path_to x) r → path_cmp r (path_to w) ≡ Less → ⊥
-      first x (inl e) g h = not_before (path_to w) r (subst (λ (y : Waiting). GoesOn (path_to y) r) (sym e) g) h
+      first : (x : Link) → IsIn (w ∷ ws) x → GoesOn (path_to x) r → path_cmp r (path_to w) ≡ Less → ⊥
+      first x (inl e) g h = not_before (path_to w) r (subst (λ (y : Link). GoesOn (path_to y) r) (sym e) g) h
       first x (inr i) g h =
-          not_before (path_to x) r g (path_total.trans r (path_to w) (path_to x) h (below_if_apart (path_to w) (path_to x) (s.apart.0 x i)))
+          not_before (path_to x) r g (path_total.trans r (path_to w) (path_to x) h (ahead_below (path_to w) (path_to x) (s.in_order.0 x i)))
 
-  pub at_next : (done rest : List Steps) (w : Waiting) (ws : List Waiting) → Walked done rest (w ∷ ws) → (more : List Steps) × IsAt done more (path_to w) w.child.visit ws
+  pub at_next : (done rest : List Steps) (w : Link) (ws : List Link) → Walked done rest (w ∷ ws) → (more : List Steps) × IsAt done more (path_to w) w.child.visit ws
   at_next done rest w ws s = by rest refl
     where
-      left_of : (more : List Steps) → rest ≡ path_to w ∷ more → (x : Waiting) → IsIn ws x → IsIn more (path_to x)
+      left_of : (more : List Steps) → rest ≡ path_to w ∷ more → (x : Link) → IsIn ws x → IsIn more (path_to x)
       left_of more e x i =
           elim (subst (λ xs. IsIn xs (path_to x)) e (s.left x (inr i)).0) [
-            | inl same ↦ absurd (not_below (path_to w) (subst (λ p. path_cmp (path_to w) p ≡ Less) (sym same) (below_if_apart (path_to w) (path_to x) (s.apart.0 x i))))
+            | inl same ↦ absurd (not_below (path_to w) (subst (λ p. path_cmp (path_to w) p ≡ Less) (sym same) (ahead_below (path_to w) (path_to x) (s.in_order.0 x i))))
             | inr j ↦ j
           ]
 
-      led_of : (p : Steps) → ((x : Waiting) × IsIn (w ∷ ws) x × GoesOn (path_to x) p) → GoesOn (path_to w) p ⊎ ((x : Waiting) × IsIn ws x × GoesOn (path_to x) p)
-      led_of p (x, inl e, g) = inl (subst (λ (y : Waiting). GoesOn (path_to y) p) (sym e) g)
+      led_of : (p : Steps) → ((x : Link) × IsIn (w ∷ ws) x × GoesOn (path_to x) p) → GoesOn (path_to w) p ⊎ ((x : Link) × IsIn ws x × GoesOn (path_to x) p)
+      led_of p (x, inl e, g) = inl (subst (λ (y : Link). GoesOn (path_to y) p) (sym e) g)
       led_of p (x, inr i, g) = inr (x, i, g)
 
       at : (more : List Steps) → rest ≡ path_to w ∷ more → IsAt done more (path_to w) w.child.visit ws
@@ -204,8 +202,8 @@ module _ (image : List ℕ) (kept reached : List Steps) (ak : AreKept image kept
         leads = (s.left w (inl refl)).1;
         led = λ p i. led_of p (s.led p (subst (λ xs. IsIn xs p) (sym e) (inr i)));
         left = λ x i. (left_of more e x i, (s.left x (inr i)).1);
-        ahead = s.apart.0;
-        apart = s.apart.1;
+        ahead = s.in_order.0;
+        in_order = s.in_order.1;
       }
 
       by : (xs : List Steps) → rest ≡ xs → (more : List Steps) × IsAt done more (path_to w) w.child.visit ws
@@ -227,7 +225,7 @@ module _ (image : List ℕ) (kept reached : List Steps) (ak : AreKept image kept
         led = λ p i. inl (p, refl);
         left = λ w i. absurd i;
         ahead = λ w i. absurd i;
-        apart = tt;
+        in_order = tt;
       }
 
       by : (xs : List Steps) → reached ≡ xs → IsIn xs [] → (more : List Steps) × IsAt [] more [] directory_root []
@@ -244,34 +242,34 @@ module _ (image : List ℕ) (kept reached : List Steps) (ak : AreKept image kept
   not_itself done rest q p parts i e =
       not_below q (subst (λ x. path_cmp q x ≡ Less) (e ∙ append-nil q) (behind_next done rest q parts p i))
 
-  pub walked_past : (done rest : List Steps) (q : Steps) (v : Visit) (ws : List Waiting) → IsAt done rest q v ws → (Contains kept q → ⊥) → Walked (done ++ q ∷ []) rest ws
+  pub walked_past : (done rest : List Steps) (q : Steps) (v : Visit) (ws : List Link) → IsAt done rest q v ws → (Contains kept q → ⊥) → Walked (done ++ q ∷ []) rest ws
   walked_past done rest q v ws a none = record {
     parts = more_parts done rest q a.parts;
     led = λ p i. led_of p i (a.led p i);
     left = a.left;
-    apart = a.apart;
+    in_order = a.in_order;
   }
     where
-      led_of : (p : Steps) → IsIn rest p → (GoesOn q p ⊎ ((w : Waiting) × IsIn ws w × GoesOn (path_to w) p)) → (w : Waiting) × IsIn ws w × GoesOn (path_to w) p
+      led_of : (p : Steps) → IsIn rest p → (GoesOn q p ⊎ ((w : Link) × IsIn ws w × GoesOn (path_to w) p)) → (w : Link) × IsIn ws w × GoesOn (path_to w) p
       led_of p i (inr l) = l
       led_of p i (inl ([], e)) = absurd (not_itself done rest q p a.parts i e)
       led_of p i (inl ((s ∷ t), e)) = absurd (none (inner_kept q p s t (in_reached (done ++ q ∷ []) rest (more_parts done rest q a.parts) p i) e))
 
-  pub walked_into : (done rest : List Steps) (q : Steps) (v : Visit) (ws : List Waiting) → IsAt done rest q v ws → Contains kept q → Walked (done ++ q ∷ []) rest (waiting_at image q v ++ ws)
+  pub walked_into : (done rest : List Steps) (q : Steps) (v : Visit) (ws : List Link) → IsAt done rest q v ws → Contains kept q → Walked (done ++ q ∷ []) rest (links_at image q v ++ ws)
   walked_into done rest q v ws a is = record {
     parts = more_parts done rest q a.parts;
     led = λ p i. led_of p i (a.led p i);
-    left = λ w i. left_of w (in_either (waiting_at image q v) ws w i);
-    apart = both_apart (waiting_at image q v) ws (siblings_apart q v.block (level_of (block_of image v.block)) 16 (children_at image v) (children_apart image v)) a.apart
-    (λ w x i j. apart_below q v.block (level_of (block_of image v.block)) (children_at image v) w x (a.ahead x j) i);
+    left = λ w i. left_of w (in_either (links_at image q v) ws w i);
+    in_order = both_ahead (links_at image q v) ws (siblings_ahead q v.block (level_of (block_of image v.block)) 16 (children_at image v) (children_apart image v)) a.in_order
+    (λ w x i j. below_ahead q v.block (level_of (block_of image v.block)) (children_at image v) w x (a.ahead x j) i);
   }
     where
       leads_from : (x : Steps) → visit_at image (q ++ x) ≡ visit_from image v x
       leads_from x = from_append image directory_root v q x a.leads
 
-      led_of : (p : Steps) → IsIn rest p → (GoesOn q p ⊎ ((w : Waiting) × IsIn ws w × GoesOn (path_to w) p))
-          → (w : Waiting) × IsIn (waiting_at image q v ++ ws) w × GoesOn (path_to w) p
-      led_of p i (inr (w, j, g)) = (w, in_right (waiting_at image q v) ws w j, g)
+      led_of : (p : Steps) → IsIn rest p → (GoesOn q p ⊎ ((w : Link) × IsIn ws w × GoesOn (path_to w) p))
+          → (w : Link) × IsIn (links_at image q v ++ ws) w × GoesOn (path_to w) p
+      led_of p i (inr (w, j, g)) = (w, in_right (links_at image q v) ws w j, g)
       led_of p i (inl ([], e)) = absurd (not_itself done rest q p a.parts i e)
       led_of p i (inl ((s ∷ t), e)) =
           let c = in_reached (done ++ q ∷ []) rest (more_parts done rest q a.parts) p i in
@@ -279,12 +277,12 @@ module _ (image : List ℕ) (kept reached : List Steps) (ak : AreKept image kept
           let l = leads_through image v s.0 s.1 t u.0 (sym (leads_from (s ∷ t)) ∙ ap (visit_at image) (sym e) ∙ u.1) in
           let same : (v.block, l.child.offset) ≡ s = λ k. (sym l.own k, l.at k) in
           (
-            child_of image q v l.child,
-            in_left (waiting_at image q v) ws (child_of image q v l.child) (in_map (child_of image q v) (children_at image v) l.child l.there),
+            link_of image q v l.child,
+            in_left (links_at image q v) ws (link_of image q v l.child) (in_map (link_of image q v) (children_at image v) l.child l.there),
             (t, e ∙ ap (λ x. q ++ x ∷ t) (sym same) ∙ sym (append_assoc q ((v.block, l.child.offset) ∷ []) t)),
           )
 
-      child_left : (c : Child) → IsIn (children_at image v) c → IsIn rest (path_to (child_of image q v c)) × (visit_at image (path_to (child_of image q v c)) ≡ Some c.visit)
+      child_left : (c : Child) → IsIn (children_at image v) c → IsIn rest (path_to (link_of image q v c)) × (visit_at image (path_to (link_of image q v c)) ≡ Some c.visit)
       child_left c i =
           let step : Steps = (v.block, c.offset) ∷ [] in
           let leads : visit_at image (q ++ step) ≡ Some c.visit = leads_from step ∙ step_leads image v c [] c.visit i refl in
@@ -293,13 +291,13 @@ module _ (image : List ℕ) (kept reached : List Steps) (ak : AreKept image kept
           let g : ExtendsKept image kept (q ++ step) c.visit = record { longer = longer; front = subst (λ x. Contains kept x) (sym front) is; leads = leads } in
           (later_rest done rest q a.parts (q ++ step) ((ar.exactly (q ++ step)).1 (inr (c.visit, g))) (below_longer q (v.block, c.offset) []), leads)
 
-      left_of : (w : Waiting) → IsIn (waiting_at image q v) w ⊎ IsIn ws w → IsIn rest (path_to w) × (visit_at image (path_to w) ≡ Some w.child.visit)
+      left_of : (w : Link) → IsIn (links_at image q v) w ⊎ IsIn ws w → IsIn rest (path_to w) × (visit_at image (path_to w) ≡ Some w.child.visit)
       left_of w (inr j) = a.left w j
       left_of w (inl j) =
-          let k = from_map (child_of image q v) (children_at image v) w j in
-          subst (λ (x : Waiting). IsIn rest (path_to x) × (visit_at image (path_to x) ≡ Some x.child.visit)) k.2 (child_left k.0 k.1)
+          let k = from_map (link_of image q v) (children_at image v) w j in
+          subst (λ (x : Link). IsIn rest (path_to x) × (visit_at image (path_to x) ≡ Some x.child.visit)) k.2 (child_left k.0 k.1)
 
-  -- Where no record is left, all paths are done.
+  -- Where no link is left, all paths are done.
   pub walked_all : (done rest : List Steps) → Walked done rest [] → reached ≡ done
   walked_all done [] s = s.parts ∙ append-nil done
   walked_all done (p ∷ rest) s = absurd (s.led p (inl refl)).1

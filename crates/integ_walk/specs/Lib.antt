@@ -1,1 +1,4 @@
-pub mod Waiting
+pub mod BlockSet
+pub mod Link
+pub mod Progress
+pub mod Walk

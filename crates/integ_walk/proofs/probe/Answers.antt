@@ -1,5 +1,5 @@
 use Rattle.std.proofs.Common.{refl}
-use Rattle.integ_walk.proofs.MarkLemmas.{AreMarks}
+use Rattle.integ_walk.proofs.ProgressLemmas.{come_all}
 use Rattle.integ_walk.proofs.probe.Goals as goal
 
 pub returns : goal.returns
