@@ -88,7 +88,7 @@ children_fall b previous (r ∷ rs) c right i =
     ]
 
 -- No kind that is there among the told ones ends the reading: none of the asked ones that would is there.
-through_any : {A : Type 0} (test : A → Bool) (xs : List A) → list_any test (through_first test xs) ≡ list_any test xs
+pub through_any : {A : Type 0} (test : A → Bool) (xs : List A) → list_any test (through_first test xs) ≡ list_any test xs
 through_any test [] = refl
 through_any {A} test (x ∷ xs) = by (test x) refl (through_any test xs)
   where
@@ -96,7 +96,7 @@ through_any {A} test (x ∷ xs) = by (test x) refl (through_any test xs)
     by true e h = rw e refl
     by false e h = ap (λ u. test x || u) h
 
-none_there : {A : Type 0} (test there : A → Bool) (xs : List A) (x : A) → list_any test (filter there xs) ≡ false → test x ≡ true → IsIn xs x → there x ≡ false
+pub none_there : {A : Type 0} (test there : A → Bool) (xs : List A) (x : A) → list_any test (filter there xs) ≡ false → test x ≡ true → IsIn xs x → there x ≡ false
 none_there test there [] x h e i = absurd i
 none_there {A} test there (y ∷ ys) x h e i = by (there y) refl h i (none_there test there ys x)
   where

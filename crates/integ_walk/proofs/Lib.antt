@@ -2,3 +2,5 @@ pub mod AheadLemmas
 pub mod WalkLemmas
 pub mod MarkLemmas
 pub mod ProgressLemmas
+pub mod ChildLemmas
+pub mod UnitLemmas
