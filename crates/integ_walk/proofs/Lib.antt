@@ -4,3 +4,4 @@ pub mod MarkLemmas
 pub mod ProgressLemmas
 pub mod ChildLemmas
 pub mod UnitLemmas
+pub mod BitLemmas
