@@ -5,3 +5,4 @@ pub mod ProgressLemmas
 pub mod ChildLemmas
 pub mod UnitLemmas
 pub mod BitLemmas
+pub mod StateLemmas

@@ -4,14 +4,13 @@ use Rattle.std.proofs.lemmas.Grind.{flat_map-append}
 use Rattle.std.proofs.lemmas.List.{append-nil}
 use Rattle.gds_block.specs.Block.{level_of}
 use Rattle.gds_header.specs.Fields.{fields_of, block_of}
-use Rattle.gds_law.specs.Fault.{Told}
+use Rattle.gds_law.specs.declared.fault.Fault.{Fault}
 use Rattle.gds_law.specs.Visit.{Visit, Child, directory_root}
 use Rattle.gds_law.specs.Block.{faults_of_block}
 use Rattle.gds_law.specs.Path.{Steps, children_at, visit_at, AreKept, AreReached}
 use Rattle.gds_law.specs.Tree.{faults_at, tree_faults, is_reached}
-use Rattle.gds_law.specs.declared.kind.FaultKind.TheVariants.{DoublyAllocated}
 use Rattle.gds_law.proofs.Membership.{IsIn, in_from_Contains, Contains-from_in, in_either}
-use Rattle.integ_walk.specs.Link.{Link, path_to, links_at}
+use Rattle.integ_walk.specs.Link.{Link, path_to, links_at, double_of}
 use Rattle.integ_walk.specs.Progress.{GoesOn, IsAhead, AreInOrder, IsLinkTo, HasCome}
 use Rattle.integ_walk.proofs.WalkLemmas.{AllAhead, Walked, IsAt, from_map, at_next, at_root, walked_past, walked_into, walked_all}
 use Rattle.integ_walk.proofs.MarkLemmas.{AreMarks, MarksAlso, marked_not_kept, unmarked_kept, marks_none, marks_past, marks_into, marks_all, faults_kept, faults_double}
@@ -26,21 +25,17 @@ ahead_from : (links : List Link) → AllAhead links → AreInOrder links
 ahead_from [] h = tt
 ahead_from (w ∷ ws) h = (λ x c. h.0 x (in_from_Contains ws x c), ahead_from ws h.1)
 
--- the fault of a link to a block that an earlier path ends in
-abbrev pub double_of : Link → Told
-double_of w = record { kind = DoublyAllocated; block = w.block; offset = w.child.offset; level = w.level; path = w.path }
-
 module _ (image : List ℕ) (kept reached : List Steps) (ak : AreKept image kept) (ar : AreReached image kept reached) where
-  abbrev Come : List Told → (ℕ → Bool) → List Link → Type 0
+  abbrev Come : List Fault → (ℕ → Bool) → List Link → Type 0
   Come faults marked links = HasCome image kept reached faults marked links
 
   -- what there is besides the paths
-  record Beside (done : List Steps) (faults : List Told) (marked : ℕ → Bool) (links : List Link) : Type 0 where
+  record Beside (done : List Steps) (faults : List Fault) (marked : ℕ → Bool) (links : List Link) : Type 0 where
     faults_are : faults ≡ flat_map (faults_at image kept) done
     marks : AreMarks image kept reached ak ar done marked
     levels : (w : Link) → IsIn links w → w.level ≡ level_of (block_of image w.block)
 
-  walked_of : (faults : List Told) (marked : ℕ → Bool) (links : List Link) → (c : Come faults marked links) → Walked image kept reached ak ar c.done c.rest links
+  walked_of : (faults : List Fault) (marked : ℕ → Bool) (links : List Link) → (c : Come faults marked links) → Walked image kept reached ak ar c.done c.rest links
   walked_of faults marked links c = record {
     parts = c.parts;
     led = λ p i. let l = c.led p (Contains-from_in c.rest p i) in (l.0, in_from_Contains links l.0 l.1, l.2);
@@ -48,10 +43,10 @@ module _ (image : List ℕ) (kept reached : List Steps) (ak : AreKept image kept
     in_order = ahead_in links c.in_order;
   }
 
-  beside_of : (faults : List Told) (marked : ℕ → Bool) (links : List Link) → (c : Come faults marked links) → Beside c.done faults marked links
+  beside_of : (faults : List Fault) (marked : ℕ → Bool) (links : List Link) → (c : Come faults marked links) → Beside c.done faults marked links
   beside_of faults marked links c = record { faults_are = c.faults_are; marks = c.marks; levels = λ w i. (c.left w (Contains-from_in links w i)).level }
 
-  come_of : (done rest : List Steps) (faults : List Told) (marked : ℕ → Bool) (links : List Link) → Walked image kept reached ak ar done rest links → Beside done faults marked links
+  come_of : (done rest : List Steps) (faults : List Fault) (marked : ℕ → Bool) (links : List Link) → Walked image kept reached ak ar done rest links → Beside done faults marked links
       → Come faults marked links
   come_of done rest faults marked links s b = record {
     done = done;
@@ -69,7 +64,7 @@ module _ (image : List ℕ) (kept reached : List Steps) (ak : AreKept image kept
 
   -- ---- steps
 
-  more_faults : (done : List Steps) (q : Steps) (faults here : List Told) → faults ≡ flat_map (faults_at image kept) done → faults_at image kept q ≡ here
+  more_faults : (done : List Steps) (q : Steps) (faults here : List Fault) → faults ≡ flat_map (faults_at image kept) done → faults_at image kept q ≡ here
       → faults ++ here ≡ flat_map (faults_at image kept) (done ++ q ∷ [])
   more_faults done q faults here e h =
       (λ i. e i ++ sym h i)
@@ -81,7 +76,7 @@ module _ (image : List ℕ) (kept reached : List Steps) (ak : AreKept image kept
       let k = from_map (λ (c : Child). record { path = q; block = v.block; level = level_of (block_of image v.block); child = c }) (children_at image v) w i in
       subst (λ (x : Link). x.level ≡ level_of (block_of image x.block)) k.2 refl
 
-  entered : (done rest : List Steps) (q : Steps) (v : Visit) (ws : List Link) (faults : List Told) (marked more : ℕ → Bool)
+  entered : (done rest : List Steps) (q : Steps) (v : Visit) (ws : List Link) (faults : List Fault) (marked more : ℕ → Bool)
       → IsAt image kept reached ak ar done rest q v ws → Beside done faults marked ws → Contains kept q → MarksAlso image kept reached ak ar marked v.block more
       → Come (faults ++ faults_of_block (fields_of image) q v (block_of image v.block)) more (links_at image q v ++ ws)
   entered done rest q v ws faults marked more a b c also =
@@ -108,7 +103,7 @@ module _ (image : List ℕ) (kept reached : List Steps) (ak : AreKept image kept
       never block h = let e = none block in cc
 
   -- Into a block that no earlier path ends in.
-  pub come_into : (faults : List Told) (marked more : ℕ → Bool) (w : Link) (ws : List Link) → Come faults marked (w ∷ ws) → marked w.child.visit.block ≡ false
+  pub come_into : (faults : List Fault) (marked more : ℕ → Bool) (w : Link) (ws : List Link) → Come faults marked (w ∷ ws) → marked w.child.visit.block ≡ false
       → MarksAlso image kept reached ak ar marked w.child.visit.block more
       → Come (faults ++ faults_of_block (fields_of image) (path_to w) w.child.visit (block_of image w.child.visit.block)) more (links_at image (path_to w) w.child.visit ++ ws)
   come_into faults marked more w ws c free also =
@@ -119,7 +114,7 @@ module _ (image : List ℕ) (kept reached : List Steps) (ak : AreKept image kept
       (unmarked_kept image kept reached ak ar c.done a.0 (path_to w) w.child.visit ws marked a.1 b.marks free) also
 
   -- Past a block that one ends in.
-  pub come_past : (faults : List Told) (marked : ℕ → Bool) (w : Link) (ws : List Link) → Come faults marked (w ∷ ws) → marked w.child.visit.block ≡ true
+  pub come_past : (faults : List Fault) (marked : ℕ → Bool) (w : Link) (ws : List Link) → Come faults marked (w ∷ ws) → marked w.child.visit.block ≡ true
       → Come (faults ++ double_of w ∷ []) marked ws
   come_past faults marked w ws c taken =
       let b = beside_of faults marked (w ∷ ws) c in
@@ -137,7 +132,7 @@ module _ (image : List ℕ) (kept reached : List Steps) (ak : AreKept image kept
   -- ---- what is to come
 
   -- At any time the faults so far are the first of all.
-  pub come_front : (faults : List Told) (marked : ℕ → Bool) (links : List Link) → Come faults marked links → (later : List Told) × (faults ++ later ≡ tree_faults image kept reached)
+  pub come_front : (faults : List Fault) (marked : ℕ → Bool) (links : List Link) → Come faults marked links → (later : List Fault) × (faults ++ later ≡ tree_faults image kept reached)
   unfolding tree_faults
   come_front faults marked links c = (
     flat_map (faults_at image kept) c.rest,
@@ -147,7 +142,7 @@ module _ (image : List ℕ) (kept reached : List Steps) (ak : AreKept image kept
   )
 
   -- Where no link is left, they are all of them, and the marked blocks those that kept paths end in.
-  pub come_all : (faults : List Told) (marked : ℕ → Bool) → Come faults marked [] → (faults ≡ tree_faults image kept reached) × ((block : ℕ) → marked block ≡ is_reached image kept block)
+  pub come_all : (faults : List Fault) (marked : ℕ → Bool) → Come faults marked [] → (faults ≡ tree_faults image kept reached) × ((block : ℕ) → marked block ≡ is_reached image kept block)
   unfolding tree_faults
   come_all faults marked c =
       let all = walked_all image kept reached ak ar c.done c.rest (walked_of faults marked [] c) in (

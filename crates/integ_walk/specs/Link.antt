@@ -2,6 +2,8 @@
 use Rattle.std.specs.Prelude.{ℕ, List, [], ◌∷◌, ◌++◌, map}
 use Rattle.gds_block.specs.Block.{level_of}
 use Rattle.gds_header.specs.Fields.{block_of}
+use Rattle.gds_law.specs.declared.fault.Fault.{Fault}
+use Rattle.gds_law.specs.declared.kind.FaultKind.TheVariants.{DoublyAllocated}
 use Rattle.gds_law.specs.Visit.{Visit, Child}
 use Rattle.gds_law.specs.Path.{Steps, children_at}
 
@@ -23,3 +25,8 @@ links_of path block level children = map (λ c. record { path = path; block = bl
 -- those of the block of a visit
 abbrev pub links_at : List ℕ → Steps → Visit → List Link
 links_at image path v = links_of path v.block (level_of (block_of image v.block)) (children_at image v)
+
+-- the fault of a link to a block in which an earlier path ends
+abbrev pub double_of : Link → Fault
+double_of link =
+    record { kind = DoublyAllocated; block = link.block; offset = link.child.offset; level = link.level; path = link.path }

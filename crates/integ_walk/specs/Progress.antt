@@ -3,7 +3,7 @@ use Rattle.std.specs.Prelude.{◌≡◌, ◌↔◌, ℕ, ⊤, Bool, true, List, 
 use Rattle.std.specs.declared.cmp.Ordering.TheVariants.{Less}
 use Rattle.gds_block.specs.Block.{level_of}
 use Rattle.gds_header.specs.Fields.{block_of}
-use Rattle.gds_law.specs.Fault.{Told}
+use Rattle.gds_law.specs.declared.fault.Fault.{Fault}
 use Rattle.gds_law.specs.Visit.{Visit}
 use Rattle.gds_law.specs.Path.{Steps, visit_at, path_cmp}
 use Rattle.gds_law.specs.Tree.{faults_at}
@@ -38,7 +38,7 @@ pub record EndsIn (image : List ℕ) (kept paths : List Steps) (block : ℕ) : T
 
 -- Some of the reached paths were followed, from the front on. These faults stand there, and the marked blocks are those
 -- that kept ones of them end in. The links lead on to all the others.
-pub record HasCome (image : List ℕ) (kept reached : List Steps) (faults : List Told) (marked : ℕ → Bool) (links : List Link) : Type 0 where
+pub record HasCome (image : List ℕ) (kept reached : List Steps) (faults : List Fault) (marked : ℕ → Bool) (links : List Link) : Type 0 where
   pub done : List Steps
   pub rest : List Steps
   pub parts : reached ≡ done ++ rest

@@ -1,14 +1,22 @@
 -- What a walk of the trees of a file finds.
-use Rattle.std.specs.Prelude.{◌≡◌, ◌<◌, ℕ, List, ◌++◌, length}
+use Rattle.std.specs.Prelude.{◌≡◌, ◌<◌, ℕ, List, ◌++◌, length, None}
+use Rattle.gds_header.specs.declared.header.Header.{Header}
 use Rattle.gds_header.specs.Fields.{fields_of}
-use Rattle.gds_law.specs.Fault.{Told}
+use Rattle.gds_header.specs.Kinds.{ending_kind}
+use Rattle.gds_law.specs.declared.fault.Fault.{Fault}
 use Rattle.gds_law.specs.Path.{Steps, AreKept, AreReached}
 use Rattle.gds_law.specs.Tree.{tree_faults, is_reached}
+use Rattle.gds_law.specs.Sink.{IsCut}
 use Rattle.integ_walk.specs.BlockSet.{has_block}
 
--- A walk from its start to its end: the list had the old faults and has the new ones, which are the trees'. So many they
--- are, and the set has those blocks that kept paths end in.
-pub record IsWalk (image : List ℕ) (old new : List Told) (used : List ℕ) (count : ℕ) : Type 0 where
+-- No kind ends the reading of the file's header, and this is it.
+pub record IsHeaderOf (header : Header) (image : List ℕ) : Type 0 where
+  pub readable : ending_kind image ≡ None
+  pub same : header ≡ fields_of image
+
+-- The list had the old faults and has the new ones, which are the trees'. So many they are, and the set has those blocks
+-- that kept paths end in.
+pub record IsWalked (image : List ℕ) (old new : List Fault) (used : List ℕ) (count : ℕ) : Type 0 where
   pub kept : List Steps
   pub reached : List Steps
   pub are_kept : AreKept image kept
@@ -16,3 +24,8 @@ pub record IsWalk (image : List ℕ) (old new : List Told) (used : List ℕ) (co
   pub faults : new ≡ old ++ tree_faults image kept reached
   pub counted : count ≡ length (tree_faults image kept reached)
   pub blocks : (block : ℕ) → block < (fields_of image).total → has_block used block ≡ is_reached image kept block
+
+-- Some of the first of the trees' faults stand behind the old ones.
+abbrev pub IsWalkedInPart : List ℕ → List Fault → List Fault → Type 0
+IsWalkedInPart image old new =
+    (kept reached : List Steps) → AreKept image kept → AreReached image kept reached → IsCut old new (tree_faults image kept reached)
