@@ -21,7 +21,7 @@ use Rattle.integ_walk.specs.BlockSet.{has_block, free_below}
 use Rattle.integ_walk.specs.Link.{Link, path_to, links_of, links_at, double_of}
 use Rattle.integ_walk.specs.Progress.{HasCome}
 use Rattle.integ_walk.specs.Walk.{IsHeaderOf}
-use Rattle.integ_walk.specs.Walker.{State, IsSound, most_of_block, work_left, IsState, IsOn, with_link}
+use Rattle.integ_walk.specs.Walker.{State, IsSound, most_of_block, work_left, IsState, IsOn, entered, with_link}
 use Rattle.integ_walk.proofs.ChildLemmas.{children_of_few, children_of_within, faults_few}
 use Rattle.integ_walk.proofs.ProgressLemmas.{come_root, come_into, come_past, come_front, come_all}
 use Rattle.integ_walk.proofs.WalkLemmas.{from_map}
@@ -140,8 +140,8 @@ module _ (s : State) (v : Visit) (path : Steps) (bytes used : List ℕ) where
   here c = record { path = path; block = v.block; level = level_of bytes; child = c }
 
   -- the state behind it
-  abbrev pub entered : State
-  entered = record { header = s.header; used = used; count = s.count + length found; links = links_of path v.block (level_of bytes) below ++ s.links }
+  abbrev pub behind : State
+  behind = entered (record s { used = used }) v path bytes
 
   few_here : length bytes ≡ s.header.block_size → length found + length (map here below) + 1 ≤ most_of_block s.header
   few_here size = omega (arith, faults_few s.header path v bytes, children_of_few s.header v bytes, size, length-map below here)
@@ -155,7 +155,7 @@ module _ (s : State) (v : Visit) (path : Steps) (bytes used : List ℕ) where
       })
 
   pub state_entered : IsState s → length bytes ≡ s.header.block_size → length path + rank v ≤ 15 → v.block < s.header.total
-      → IsWith s.used v.block used → has_block s.used v.block ≡ false → length used ≡ length s.used → IsState entered × (work_left entered < work_left s)
+      → IsWith s.used v.block used → has_block s.used v.block ≡ false → length used ≡ length s.used → IsState behind × (work_left behind < work_left s)
   state_entered h size short within more free room =
       let less = less_work (free_below s.used s.header.total) (free_below used s.header.total) (most_of_block s.header) (length found) (length (map here below))
           (length s.links) s.count (s.header.total * most_of_block s.header)
@@ -221,12 +221,12 @@ module _ (image : List ℕ) (kept reached : List Steps) (ak : AreKept image kept
     -- into the block of a link
     module _ (now : List Fault) (link : Link) (more : IsWith s.used link.child.visit.block used) (free : has_block s.used link.child.visit.block ≡ false) (on : On now (with_link link s)) where
       come_here : HasCome image kept reached (on.faults ++ at (path_to link) link.child.visit) (has_block used)
-          (entered s link.child.visit (path_to link) (block_of image link.child.visit.block) used).links
+          (behind s link.child.visit (path_to link) (block_of image link.child.visit.block) used).links
       come_here =
           by_header (path_to link) link.child.visit on.faults s.links
           (come_into image kept reached ak ar on.faults (has_block s.used) (has_block used) link s.links on.come free more)
 
-      pub on_entered : On (now ++ at (path_to link) link.child.visit) (entered s link.child.visit (path_to link) (block_of image link.child.visit.block) used)
+      pub on_entered : On (now ++ at (path_to link) link.child.visit) (behind s link.child.visit (path_to link) (block_of image link.child.visit.block) used)
       on_entered =
           let here = at (path_to link) link.child.visit in
           record {
@@ -239,24 +239,24 @@ module _ (image : List ℕ) (kept reached : List Steps) (ak : AreKept image kept
       pub on_entering : (later : List Fault) → IsCut now later (at (path_to link) link.child.visit) → IsCut old later (tree_faults image kept reached)
       on_entering later cut =
           let here = at (path_to link) link.child.visit in
-          let s' = entered s link.child.visit (path_to link) (block_of image link.child.visit.block) used in
+          let s' = behind s link.child.visit (path_to link) (block_of image link.child.visit.block) used in
           let rest = come_front image kept reached ak ar (on.faults ++ here) (has_block used) s'.links come_here in
           IsCut-behind old now later on.faults (here ++ rest.0) (tree_faults image kept reached) on.listed (sym (append_assoc on.faults here rest.0) ∙ rest.1)
           (IsCut-front now later here rest.0 (here ++ rest.0) refl cut)
 
     -- into the directory's root
     module _ (none : (b : ℕ) → has_block s.used b ≡ false) (more : IsWith s.used 1 used) (start : s.count ≡ 0) (nil : s.links ≡ []) where
-      come_first : HasCome image kept reached (at [] directory_root) (has_block used) (entered s directory_root [] (block_of image 1) used).links
+      come_first : HasCome image kept reached (at [] directory_root) (has_block used) (behind s directory_root [] (block_of image 1) used).links
       come_first =
           let first = come_root image kept reached ak ar (has_block s.used) (has_block used) none more in
           let links = subst (HasCome image kept reached (faults_of_block (fields_of image) [] directory_root (block_of image 1)) (has_block used))
               (sym (append-nil (links_at image [] directory_root)) ∙ ap (λ ls. links_at image [] directory_root ++ ls) (sym nil)) first in
           by_header [] directory_root [] s.links links
 
-      pub on_root : On (old ++ at [] directory_root) (entered s directory_root [] (block_of image 1) used)
+      pub on_root : On (old ++ at [] directory_root) (behind s directory_root [] (block_of image 1) used)
       on_root = record { faults = at [] directory_root; listed = refl; counted = omega (arith, start); come = come_first }
 
       pub on_rooting : (later : List Fault) → IsCut old later (at [] directory_root) → IsCut old later (tree_faults image kept reached)
       on_rooting later cut =
-          let rest = come_front image kept reached ak ar (at [] directory_root) (has_block used) (entered s directory_root [] (block_of image 1) used).links come_first in
+          let rest = come_front image kept reached ak ar (at [] directory_root) (has_block used) (behind s directory_root [] (block_of image 1) used).links come_first in
           IsCut-front old later (at [] directory_root) rest.0 (tree_faults image kept reached) rest.1 cut

@@ -1,5 +1,6 @@
 -- What a walk of the trees of a file finds.
-use Rattle.std.specs.Prelude.{◌≡◌, ◌<◌, ℕ, List, ◌++◌, length, None}
+use Rattle.std.specs.Prelude.{◌≡◌, ◌<◌, ◌≤◌, ℕ, List, ◌++◌, length, Option, None, Result, IsErrOf}
+use Rattle.host_model.specs.Failures.{Rose}
 use Rattle.gds_header.specs.declared.header.Header.{Header}
 use Rattle.gds_header.specs.Fields.{fields_of}
 use Rattle.gds_header.specs.Kinds.{ending_kind}
@@ -7,6 +8,8 @@ use Rattle.gds_law.specs.declared.fault.Fault.{Fault}
 use Rattle.gds_law.specs.Path.{Steps, AreKept, AreReached}
 use Rattle.gds_law.specs.Tree.{tree_faults, is_reached}
 use Rattle.gds_law.specs.Sink.{IsCut}
+use Rattle.integ_block.specs.declared.error.IntegError.{IntegError}
+use Rattle.integ_block.specs.declared.error.IntegError.TheVariants.{ReadFault, SayFault, Changed}
 use Rattle.integ_walk.specs.BlockSet.{has_block}
 
 -- No kind ends the reading of the file's header, and this is it.
@@ -29,3 +32,15 @@ pub record IsWalked (image : List ℕ) (old new : List Fault) (used : List ℕ) 
 abbrev pub IsWalkedInPart : List ℕ → List Fault → List Fault → Type 0
 IsWalkedInPart image old new =
     (kept reached : List Steps) → AreKept image kept → AreReached image kept reached → IsCut old new (tree_faults image kept reached)
+
+-- What a call leaves of a source of units and of a sink: the source tells what it told before, and no count of failures
+-- fell. A count rose where the call says that the source or the sink failed, and that a unit has changed it says only where
+-- the source doesn't tell.
+pub record HasCause {U F T : Type 0} (told : U → Option (List ℕ)) (reads : U → ℕ) (says : F → ℕ) (old new : U) (before now : F)
+    (result : Result T IntegError) : Type 0 where
+  pub image : told new ≡ told old
+  pub read : reads old ≤ reads new
+  pub read_fault : IsErrOf result ReadFault → Rose (reads old) (reads new)
+  pub changed : (unit : ℕ) → IsErrOf result (Changed unit) → told old ≡ None
+  pub say : says before ≤ says now
+  pub say_fault : IsErrOf result SayFault → Rose (says before) (says now)

@@ -1,21 +1,16 @@
-ghost use Rattle.std.specs.Prelude.{◌≡◌, ◌<◌, ◌≤◌, ◌+◌, ◌*◌, ◌^◌, ◌↔◌, ◌++◌, ◌∷◌, [], ℕ, List, Option, length, map, not, true, false, IfOk, IfErr, OnOk, OnErr, IfSome, IsErrOf, IsTrue};
+ghost use Rattle.std.specs.Prelude.{◌≡◌, ◌<◌, ◌≤◌, ◌+◌, ◌/◌, ◌^◌, ◌++◌, [], ℕ, List, length, true, false, option_map, IfOk, OnOk};
 ghost use Rattle.std.specs.Option.{option_to_list, ForSome};
-ghost use Rattle.host_model.specs.Failures.{Rose};
-ghost use Rattle.gds_block.specs.Block.{level_of};
 ghost use Rattle.gds_header.specs.Fields.{block_of};
 ghost use Rattle.gds_header.specs.Kinds.{IsWithinLimits};
-ghost use Rattle.gds_law.specs.Block.{faults_of_block, children_of};
-ghost use Rattle.gds_law.specs.Path.{Steps, AreKept, AreReached};
-ghost use Rattle.gds_law.specs.Sink.{Grew, IsCut};
-ghost use Rattle.gds_law.specs.Tree.{tree_faults};
+ghost use Rattle.gds_law.specs.Block.{faults_of_block};
+ghost use Rattle.gds_law.specs.Sink.{Grew};
 ghost use Rattle.gds_law.specs.Visit.{visit_of};
-ghost use Rattle.gds_law.specs.declared.fault.Fault.{Fault};
 ghost use Rattle.integ_walk.specs.BlockSet.{has_block};
-ghost use Rattle.integ_walk.specs.Frame.{all_links, link_of};
-ghost use Rattle.integ_walk.specs.Link.{links_of};
-ghost use Rattle.integ_walk.specs.Walk.{IsHeaderOf, IsWalkedInPart};
-ghost use Rattle.integ_walk.specs.Walker.{IsOn, IsState, work_left};
+ghost use Rattle.integ_walk.specs.Frame.{link_of, state_of};
+ghost use Rattle.integ_walk.specs.Walk.{HasCause, IsHeaderOf};
+ghost use Rattle.integ_walk.specs.Walker.{Begins, ComesOn, IsState, entered, most_of_block, with_link, work_left};
 
+use crate::Seen;
 use crate::block_set::BlockSet;
 use crate::frame::Frame;
 use crate::link::Link;
@@ -45,7 +40,14 @@ pub(crate) struct Walker<'a> {
 
 impl<'a> Walker<'a> {
     /// A walk that hasn't begun.
-    pub(crate) fn new(alloc: Global, header: &'a Header) -> Result<Walker<'a>, AllocError> {
+    pub(crate) fn new(alloc: Global, header: &'a Header) -> Result<Walker<'a>, AllocError>
+        ensures header { IfOk result (λ walker. walker.header.now ≡ header.now) }
+        ensures none { IfOk result (λ walker. (b : ℕ) → has_block walker.used.bytes.items b ≡ false) }
+        ensures room { IfOk result (λ walker. length walker.used.bytes.items ≡ (header.now.total + 7) / 8) }
+        ensures buffer { IfOk result (λ walker. length walker.block.items ≡ header.now.block_size) }
+        ensures links { IfOk result (λ walker. (state_of walker).links ≡ []) }
+        ensures faults { IfOk result (λ walker. walker.faults ≡ 0) }
+    {
         Ok(Walker {
             alloc,
             header,
@@ -61,7 +63,22 @@ impl<'a> Walker<'a> {
         &mut self,
         units: &mut U,
         sink: &mut F,
-    ) -> Result<(), IntegError> {
+    ) -> Result<(), IntegError>
+        requires limits { IsWithinLimits self.old.header.now }
+        requires none { (b : ℕ) → has_block self.old.used.bytes.items b ≡ false }
+        requires room { length self.old.used.bytes.items ≡ (self.old.header.now.total + 7) / 8 }
+        requires links { (state_of self.old).links ≡ [] }
+        requires faults { self.old.faults ≡ 0 }
+        requires buffer { length self.old.block.items ≡ self.old.header.now.block_size }
+        requires header { ForSome (U.image units.old) (IsHeaderOf self.old.header.now) }
+
+        ensures state { OnOk result (IsState (state_of self.new)) }
+        ensures buffer { length self.new.block.items ≡ length self.old.block.items }
+        ensures header { self.new.header.now ≡ self.old.header.now }
+        ensures on { ForSome (U.image units.old)
+            (λ file. Begins file (F.listed sink.old) (F.listed sink.new) (state_of self.new) result) }
+        ensures cause { HasCause U.image U.failures F.failures units.old units.new sink.old sink.new result }
+    {
         self.used.insert(ROOT);
         let visit = Visit {
             block: ROOT,
@@ -80,7 +97,19 @@ impl<'a> Walker<'a> {
         &mut self,
         units: &mut U,
         sink: &mut F,
-    ) -> Result<bool, IntegError> {
+    ) -> Result<bool, IntegError>
+        requires state { IsState (state_of self.old) }
+        requires buffer { length self.old.block.items ≡ self.old.header.now.block_size }
+        requires header { ForSome (U.image units.old) (IsHeaderOf self.old.header.now) }
+        ensures state { OnOk result (IsState (state_of self.new)) }
+        ensures less { IfOk result (λ more. more ≡ true → work_left (state_of self.new) < work_left (state_of self.old)) }
+        ensures end { IfOk result (λ more. more ≡ false → (state_of self.new).links ≡ []) }
+        ensures buffer { length self.new.block.items ≡ length self.old.block.items }
+        ensures header { self.new.header.now ≡ self.old.header.now }
+        ensures on { ForSome (U.image units.old) (λ file. ComesOn file (F.listed sink.old) (state_of self.old)
+            (F.listed sink.new) (state_of self.new) result) }
+        ensures cause { HasCause U.image U.failures F.failures units.old units.new sink.old sink.new result }
+    {
         while let Some(link) = self.next_link() {
             if self.follow(link, units, sink)? {
                 return Ok(true);
@@ -95,7 +124,20 @@ impl<'a> Walker<'a> {
         link: Link,
         units: &mut U,
         sink: &mut F,
-    ) -> Result<bool, IntegError> {
+    ) -> Result<bool, IntegError>
+        requires state { IsState (with_link (link_of link) (state_of self.old)) }
+        requires buffer { length self.old.block.items ≡ self.old.header.now.block_size }
+        requires header { ForSome (U.image units.old) (IsHeaderOf self.old.header.now) }
+        ensures state { OnOk result (IsState (state_of self.new)) }
+        ensures less { OnOk result
+            (work_left (state_of self.new) < work_left (with_link (link_of link) (state_of self.old))) }
+        ensures buffer { length self.new.block.items ≡ length self.old.block.items }
+        ensures header { self.new.header.now ≡ self.old.header.now }
+        ensures on { ForSome (U.image units.old)
+            (λ file. ComesOn file (F.listed sink.old) (with_link (link_of link) (state_of self.old))
+            (F.listed sink.new) (state_of self.new) result) }
+        ensures cause { HasCause U.image U.failures F.failures units.old units.new sink.old sink.new result }
+    {
         let is_new = self.used.insert(link.child.visit.block);
         if is_new {
             self.enter(link.into_at(), units, sink)?;
@@ -112,7 +154,22 @@ impl<'a> Walker<'a> {
         at: At,
         units: &mut U,
         sink: &mut F,
-    ) -> Result<(), IntegError> {
+    ) -> Result<(), IntegError>
+        requires limits { IsWithinLimits self.old.header.now }
+        requires within { at.visit.block < self.old.header.now.total }
+        requires fits { self.old.faults + most_of_block self.old.header.now < 2 ^ 64 }
+        requires buffer { length self.old.block.items ≡ self.old.header.now.block_size }
+        requires header { ForSome (U.image units.old) (IsHeaderOf self.old.header.now) }
+        ensures entered { OnOk result (state_of self.new
+            ≡ entered (state_of self.old) (visit_of at.visit) at.path self.new.block.items) }
+        ensures read { ForSome (U.image units.old)
+            (λ file. OnOk result (self.new.block.items ≡ block_of file at.visit.block)) }
+        ensures told { ForSome (U.image units.old) (λ file. Grew (F.listed sink.old) (F.listed sink.new)
+            (faults_of_block self.old.header.now at.path (visit_of at.visit) (block_of file at.visit.block)) result) }
+        ensures buffer { length self.new.block.items ≡ length self.old.block.items }
+        ensures header { self.new.header.now ≡ self.old.header.now }
+        ensures cause { HasCause U.image U.failures F.failures units.old units.new sink.old sink.new result }
+    {
         units.unit(at.visit.block + 1, &mut self.block)?;
         let mut children = Vec::new(self.alloc);
         self.faults += block_faults(&self.block, &at, self.header, sink, &mut children)?;
@@ -127,8 +184,22 @@ impl<'a> Walker<'a> {
         Ok(())
     }
 
+    /// What the walk has seen.
+    pub(crate) fn into_seen(self) -> Seen
+        ensures used { result.used.items ≡ self.used.bytes.items }
+        ensures faults { result.faults ≡ self.faults }
+    {
+        Seen {
+            used: self.used.bytes,
+            faults: self.faults,
+        }
+    }
+
     /// Takes out the next link.
     fn next_link(&mut self) -> Option<Link>
+        ensures links { (state_of self.old).links
+            ≡ option_to_list (option_map link_of result) ++ (state_of self.new).links }
+        ensures others { self.new ≡ record self.old { frames = self.new.frames } }
     {
         while let Some(frame) = self.frames.last_mut() {
             if let Some(link) = frame.next_link() {
