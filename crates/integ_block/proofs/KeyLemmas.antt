@@ -9,7 +9,7 @@ use Rattle.m_number.specs.Numeral.{Numeral, IsNumeral}
 use Rattle.m_number.specs.Text.{text_of}
 use Rattle.m_number.specs.Bytes.{bytes_of}
 use Rattle.m_number.proofs.Comparing.{byte_count}
-use Rattle.m_number.proofs.BlockReading.{no_front}
+use Rattle.m_number.proofs.Reading.{no_front}
 use Rattle.m_number.specs.Number.{numeral_of}
 use Rattle.m_number.specs.declared.number.Number.{Number}
 use Rattle.m_key.specs.Key.{escaped}

@@ -1,9 +1,8 @@
 ghost use Rattle.std.specs.Prelude.{◌≡◌, ◌≤◌, length, option_map};
-ghost use Rattle.gds_law.specs.Fault.{role_of};
+ghost use Rattle.gds_law.specs.Visit.{role_of};
 
 use gds_law::Role;
-use m_key::join_key;
-use m_key::Key;
+use m_key::{Key, join_key};
 
 /// The key with these bytes.
 pub(crate) fn key_of(bytes: &[u8]) -> Key
