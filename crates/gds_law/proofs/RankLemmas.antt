@@ -1,4 +1,4 @@
--- A visit's rank, which bounds how many records lead on from there: each child's is smaller.
+-- Each child's rank is smaller than its block's.
 use Rattle.std.proofs.Common.{◌≡◌, ℕ, ◌+◌, ◌-◌, ◌<◌, ◌==◌, Bool, true, false, not, ◌&&◌, ◌||◌, if◌then◌else◌, List, [], ◌∷◌, ◌++◌, filter, Option, None, Some, inl, inr, refl, sym, ap, subst, ◌∙◌, arith}
 use Rattle.std.specs.List.{list_any}
 use Rattle.std.proofs.lemmas.Bool.{not-false, ltb-false, eqb-true, eqb-false, le-ltb, and_left, or_parts, cond_both}
@@ -7,22 +7,13 @@ use Rattle.gds_header.specs.Kinds.{through_first}
 use Rattle.gds_block.specs.Record.{Record, records_of}
 use Rattle.gds_law.specs.Kinds.{ends, head_kinds}
 use Rattle.gds_law.specs.Visit.{TreeRole, directory, global, Visit, Child}
+use Rattle.gds_law.specs.Rank.{rank_of, rank}
 use Rattle.gds_law.specs.BlockReading.{BlockReading, PlacedRecord, reading_of, has_values, is_last, pointer_of, key_of}
 use Rattle.gds_law.specs.Record.{target_of, is_ended, child_to, children_of_record, is_sound}
 use Rattle.gds_law.specs.Block.{is_wrong_level, head_holds, kinds_of_head, children_from, children_of}
 use Rattle.gds_law.specs.declared.kind.FaultKind.{FaultKind}
 use Rattle.gds_law.specs.declared.kind.FaultKind.TheVariants.{WrongLevel}
 use Rattle.gds_law.proofs.Membership.{IsIn, in_either}
-
--- a global's tree has 8 levels at most, and so has the directory's, which leads to them
-abbrev pub rank_of : TreeRole → Option ℕ → ℕ
-rank_of directory None = 15
-rank_of directory (Some due) = due + 8
-rank_of (global name) None = 7
-rank_of (global name) (Some due) = due
-
-abbrev pub rank : Visit → ℕ
-rank v = rank_of v.role v.level
 
 -- a level below
 not_zero : (level : ℕ) → (level == 0) ≡ false → 0 < level

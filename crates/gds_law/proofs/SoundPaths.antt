@@ -7,7 +7,7 @@ use Rattle.std.proofs.lemmas.Bool.{cases_eq, cases_lt, eqb-true, eqb-false, eq-e
 use Rattle.gds_law.specs.Visit.{Visit, Child}
 use Rattle.gds_law.specs.Path.{Steps, children_at, child_at, visit_from}
 use Rattle.gds_law.proofs.Membership.{IsIn}
-use Rattle.gds_law.proofs.RankLemmas.{rank}
+use Rattle.gds_law.specs.Rank.{rank}
 use Rattle.gds_law.proofs.SoundBlocks.{RisingFrom, children_apart, child_found, above}
 use Rattle.gds_law.proofs.PathLemmas.{child_lower}
 use Rattle.gds_law.proofs.SoundTrees.{LeadsThrough, leads_through}
