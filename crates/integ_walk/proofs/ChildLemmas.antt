@@ -103,8 +103,8 @@ kinds_few b bytes at previous (r ∷ rs) =
     let here : List (ℕ × FaultKind) = map (at_offset r.offset) (kinds_of b s) in
     let more : List (ℕ × FaultKind) = if is_ended b s then [] else kinds_from b bytes (r.offset + size_of s) (key_of b s) rs in
     let few : length more ≤ 1 + 22 * length rs =
-        cond_both (is_ended b s) _ _ (λ (ks : List (ℕ × FaultKind)). length ks ≤ 1 + 22 * length rs) (λ _. omega arith)
-        (λ _. kinds_few b bytes (r.offset + size_of s) (key_of b s) rs) in
+    cond_both (is_ended b s) _ _ (λ (ks : List (ℕ × FaultKind)). length ks ≤ 1 + 22 * length rs) (λ _. omega arith)
+    (λ _. kinds_few b bytes (r.offset + size_of s) (key_of b s) rs) in
     omega (arith, length-append here more, length-map (kinds_of b s) (at_offset r.offset), record_few b s, few)
 
 block_few : (b : BlockReading) (bytes : List ℕ) → length (kinds_of_block b bytes) ≤ 8 + 22 * length bytes
@@ -113,8 +113,8 @@ block_few b bytes =
     let head = kinds_of_head b bytes in
     let more : List (ℕ × FaultKind) = if list_any ends head then [] else kinds_from b bytes 16 [] (records_of bytes) in
     let few : length more ≤ 1 + 22 * length bytes =
-        cond_both (list_any ends head) _ _ (λ (ks : List (ℕ × FaultKind)). length ks ≤ 1 + 22 * length bytes) (λ _. omega arith)
-        (λ _. omega (arith, kinds_few b bytes 16 [] (records_of bytes), records_of_few bytes)) in
+    cond_both (list_any ends head) _ _ (λ (ks : List (ℕ × FaultKind)). length ks ≤ 1 + 22 * length bytes) (λ _. omega arith)
+    (λ _. omega (arith, kinds_few b bytes 16 [] (records_of bytes), records_of_few bytes)) in
     omega (arith, length-append (map (at_offset 0) head) more, length-map head (at_offset 0), head_few b bytes, few)
 
 pub faults_few : (h : Header) (path : List (ℕ × ℕ)) (v : Visit) (bytes : List ℕ) → length (faults_of_block h path v bytes) ≤ 8 + 22 * length bytes

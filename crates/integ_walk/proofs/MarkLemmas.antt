@@ -45,14 +45,18 @@ module _ (image : List ℕ) (kept reached : List Steps) (ak : AreKept image kept
         | inl nil ↦ inl nil
         | inr k ↦
             let same : k.0 ≡ v = cc (a.leads, k.1.leads) in
-            inr (k.0, k.1, λ t. not_both_ways (marked v.block) ((m v.block).1 (record {
-              path = t.earlier;
-              there = Contains-from_in done t.earlier (sooner_done image kept reached ak ar done rest q a.parts t.earlier (kept_reached image kept reached ak ar t.earlier t.kept_too) t.before);
-              is_kept = t.kept_too;
-              visit = t.visit;
-              leads = t.leads;
-              same = t.same ∙ ap (λ (w : Visit). w.block) same;
-            })) h)
+            inr (
+              k.0,
+              k.1,
+              λ t. not_both_ways (marked v.block) ((m v.block).1 (record {
+                path = t.earlier;
+                there = Contains-from_in done t.earlier (sooner_done image kept reached ak ar done rest q a.parts t.earlier (kept_reached image kept reached ak ar t.earlier t.kept_too) t.before);
+                is_kept = t.kept_too;
+                visit = t.visit;
+                leads = t.leads;
+                same = t.same ∙ ap (λ (w : Visit). w.block) same;
+              })) h,
+            )
       ])
 
   -- ---- the marks behind it

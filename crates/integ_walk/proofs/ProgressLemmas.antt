@@ -121,8 +121,8 @@ module _ (image : List ℕ) (kept reached : List Steps) (ak : AreKept image kept
       let a = at_next image kept reached ak ar c.done c.rest w ws (walked_of faults marked (w ∷ ws) c) in
       let none = marked_not_kept image kept reached ak ar c.done a.0 (path_to w) w.child.visit ws marked a.1 b.marks taken in
       let here : faults_at image kept (path_to w) ≡ double_of w ∷ [] =
-          faults_double image kept reached ak ar w.path w.block w.child.offset none
-          ∙ ap (λ level. record (double_of w) { level = level } ∷ []) (sym (b.levels w (inl refl))) in
+      faults_double image kept reached ak ar w.path w.block w.child.offset none
+      ∙ ap (λ level. record (double_of w) { level = level } ∷ []) (sym (b.levels w (inl refl))) in
       come_of (c.done ++ path_to w ∷ []) a.0 _ marked ws (walked_past image kept reached ak ar c.done a.0 (path_to w) w.child.visit ws a.1 none) (record {
         faults_are = more_faults c.done (path_to w) faults (double_of w ∷ []) b.faults_are here;
         marks = marks_past image kept reached ak ar c.done (path_to w) marked b.marks none;
@@ -137,8 +137,8 @@ module _ (image : List ℕ) (kept reached : List Steps) (ak : AreKept image kept
   come_front faults marked links c = (
     flat_map (faults_at image kept) c.rest,
     ap (λ xs. xs ++ flat_map (faults_at image kept) c.rest) c.faults_are
-    ∙ sym (flat_map-append (faults_at image kept) c.done c.rest)
-    ∙ ap (flat_map (faults_at image kept)) (sym c.parts),
+        ∙ sym (flat_map-append (faults_at image kept) c.done c.rest)
+        ∙ ap (flat_map (faults_at image kept)) (sym c.parts),
   )
 
   -- Where no link is left, they are all of them, and the marked blocks those that kept paths end in.

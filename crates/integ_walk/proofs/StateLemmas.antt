@@ -158,8 +158,8 @@ module _ (s : State) (v : Visit) (path : Steps) (bytes used : List ℕ) where
       → IsWith s.used v.block used → has_block s.used v.block ≡ false → length used ≡ length s.used → IsState behind × (work_left behind < work_left s)
   state_entered h size short within more free room =
       let less = less_work (free_below s.used s.header.total) (free_below used s.header.total) (most_of_block s.header) (length found) (length (map here below))
-          (length s.links) s.count (s.header.total * most_of_block s.header)
-          (free_less s.used used v.block s.header.total more free within) (few_here size) h.few in
+      (length s.links) s.count (s.header.total * most_of_block s.header)
+      (free_less s.used used v.block s.header.total more free within) (few_here size) h.few in
       let links = length-append (map here below) s.links in (
         record {
           limits = h.limits;
@@ -199,7 +199,7 @@ module _ (image : List ℕ) (kept reached : List Steps) (ak : AreKept image kept
     listed = ap (λ fs. fs ++ double_of link ∷ []) on.listed ∙ append_assoc old on.faults (double_of link ∷ []);
     counted = omega (arith, on.counted, length-append on.faults (double_of link ∷ []));
     come = subst (λ marked. HasCome image kept reached (on.faults ++ double_of link ∷ []) marked s.links) (λ i b. sym (same b) i)
-    (come_past image kept reached ak ar on.faults (has_block s.used) link s.links on.come taken);
+        (come_past image kept reached ak ar on.faults (has_block s.used) link s.links on.come taken);
   }
 
   module _ (s : State) (used : List ℕ) (is : IsHeaderOf s.header image) where
@@ -215,7 +215,7 @@ module _ (image : List ℕ) (kept reached : List Steps) (ak : AreKept image kept
     by_header path v front links come =
         let bytes = block_of image v.block in
         let P : Header → Type 0 = λ h.
-            HasCome image kept reached (front ++ faults_of_block h path v bytes) (has_block used) (links_of path v.block (level_of bytes) (children_of h v bytes) ++ links) in
+        HasCome image kept reached (front ++ faults_of_block h path v bytes) (has_block used) (links_of path v.block (level_of bytes) (children_of h v bytes) ++ links) in
         subst P (sym is.same) come
 
     -- into the block of a link
@@ -250,7 +250,7 @@ module _ (image : List ℕ) (kept reached : List Steps) (ak : AreKept image kept
       come_first =
           let first = come_root image kept reached ak ar (has_block s.used) (has_block used) none more in
           let links = subst (HasCome image kept reached (faults_of_block (fields_of image) [] directory_root (block_of image 1)) (has_block used))
-              (sym (append-nil (links_at image [] directory_root)) ∙ ap (λ ls. links_at image [] directory_root ++ ls) (sym nil)) first in
+          (sym (append-nil (links_at image [] directory_root)) ∙ ap (λ ls. links_at image [] directory_root ++ ls) (sym nil)) first in
           by_header [] directory_root [] s.links links
 
       pub on_root : On (old ++ at [] directory_root) (behind s directory_root [] (block_of image 1) used)

@@ -70,8 +70,8 @@ module _ (path : Steps) (block level : ℕ) where
   siblings_ahead low [] r = tt
   siblings_ahead low (c ∷ cs) r = (
     λ x i. let k = from_map here cs x i in
-    let more = above (suc c.offset) cs k.0 r.1 k.1 in
-    subst (λ (w : Link). IsAhead (path ++ (block, c.offset) ∷ []) (path_to w)) k.2 (ahead_at path block c.offset k.0.offset (omega arith)),
+        let more = above (suc c.offset) cs k.0 r.1 k.1 in
+        subst (λ (w : Link). IsAhead (path ++ (block, c.offset) ∷ []) (path_to w)) k.2 (ahead_at path block c.offset k.0.offset (omega arith)),
     siblings_ahead (suc c.offset) cs r.1,
   )
 
@@ -261,7 +261,7 @@ module _ (image : List ℕ) (kept reached : List Steps) (ak : AreKept image kept
     led = λ p i. led_of p i (a.led p i);
     left = λ w i. left_of w (in_either (links_at image q v) ws w i);
     in_order = both_ahead (links_at image q v) ws (siblings_ahead q v.block (level_of (block_of image v.block)) 16 (children_at image v) (children_apart image v)) a.in_order
-    (λ w x i j. below_ahead q v.block (level_of (block_of image v.block)) (children_at image v) w x (a.ahead x j) i);
+        (λ w x i j. below_ahead q v.block (level_of (block_of image v.block)) (children_at image v) w x (a.ahead x j) i);
   }
     where
       leads_from : (x : Steps) → visit_at image (q ++ x) ≡ visit_from image v x
@@ -275,8 +275,7 @@ module _ (image : List ℕ) (kept reached : List Steps) (ak : AreKept image kept
           let c = in_reached (done ++ q ∷ []) rest (more_parts done rest q a.parts) p i in
           let u = reached_leads image kept p ((ar.exactly p).0 c) in
           let l = leads_through image v s.0 s.1 t u.0 (sym (leads_from (s ∷ t)) ∙ ap (visit_at image) (sym e) ∙ u.1) in
-          let same : (v.block, l.child.offset) ≡ s = λ k. (sym l.own k, l.at k) in
-          (
+          let same : (v.block, l.child.offset) ≡ s = λ k. (sym l.own k, l.at k) in (
             link_of image q v l.child,
             in_left (links_at image q v) ws (link_of image q v l.child) (in_map (link_of image q v) (children_at image v) l.child l.there),
             (t, e ∙ ap (λ x. q ++ x ∷ t) (sym same) ∙ sym (append_assoc q ((v.block, l.child.offset) ∷ []) t)),

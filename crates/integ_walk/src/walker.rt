@@ -186,8 +186,8 @@ impl<'a> Walker<'a> {
 
     /// What the walk has seen.
     pub(crate) fn into_seen(self) -> Seen
-        ensures used { result.used.items ≡ self.used.bytes.items }
-        ensures faults { result.faults ≡ self.faults }
+        ensures used { result.used.items ≡ self.entry.used.bytes.items }
+        ensures faults { result.faults ≡ self.entry.faults }
     {
         Seen {
             used: self.used.bytes,

@@ -10,7 +10,7 @@ returns-clause-is_new c =
     let bytes = c.args.self.now.bytes.items in
     let place = c.args.block / 8 in
     let read : c.index_mut-byte.result.now ≡ slice_index bytes place =
-        c.index_mut-byte.ensures.value ∙ get_or_default_zero bytes place _ (omega (arith, c.requires)) in
+    c.index_mut-byte.ensures.value ∙ get_or_default_zero bytes place _ (omega (arith, c.requires)) in
     is_new c.index_mut-byte.result.now (c.args.block % 8) (omega arith)
     ∙ ap (λ byte. not (bit_at byte (c.args.block % 8) == 1)) read
 
