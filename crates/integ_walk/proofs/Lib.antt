@@ -6,3 +6,4 @@ pub mod ChildLemmas
 pub mod UnitLemmas
 pub mod BitLemmas
 pub mod StateLemmas
+pub mod FrameLemmas

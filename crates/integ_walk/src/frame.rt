@@ -1,6 +1,6 @@
-ghost use Rattle.std.specs.Prelude.{◌≡◌, ◌++◌, option_map};
+ghost use Rattle.std.specs.Prelude.{◌≡◌, [], ◌++◌, option_map, IfNone};
 ghost use Rattle.std.specs.Option.{option_to_list};
-ghost use Rattle.integ_walk.specs.Frame.{link_of, links_in};
+ghost use Rattle.integ_walk.specs.Frame.{all_links, link_of, links_in};
 
 use crate::link::Link;
 use gds_law::Path;
@@ -21,7 +21,8 @@ pub(crate) struct Frame {
 impl Frame {
     /// Takes out the next child.
     pub(crate) fn next_link(&mut self) -> Option<Link>
-        ensures { links_in self.old ≡ option_to_list (option_map link_of result) ++ links_in self.new }
+        ensures links { links_in self.old ≡ option_to_list (option_map link_of result) ++ links_in self.new }
+        ensures end { IfNone result (links_in self.old ≡ []) }
     {
         let child = self.children.next()?;
         Some(Link {
@@ -31,4 +32,17 @@ impl Frame {
             child,
         })
     }
+}
+
+/// Takes the next link out of the last of the frames that has one, and the frames behind that one too.
+pub(crate) fn next_link(frames: &mut Vec<Frame>) -> Option<Link>
+    ensures { all_links frames.old.items ≡ option_to_list (option_map link_of result) ++ all_links frames.new.items }
+{
+    while let Some(last) = frames.len().checked_sub(1) {
+        if let Some(link) = frames[last].next_link() {
+            return Some(link);
+        }
+        frames.pop();
+    }
+    None
 }

@@ -1,4 +1,8 @@
-ghost use Rattle.std.specs.Prelude.{◌≡◌, ◌<◌, ◌≤◌, ◌+◌, ◌/◌, ◌^◌, ◌++◌, [], ℕ, List, length, true, false, option_map, IfOk, OnOk};
+ghost use Rattle.std.specs.Prelude.{◌≡◌, ◌<◌, ◌≤◌, ◌+◌, ◌/◌, ◌^◌, ◌++◌, [], ℕ, List, length, map, true, false, None, option_map, IfOk, OnOk, IsErrOf};
+ghost use Rattle.host_model.specs.Failures.{Rose};
+ghost use Rattle.gds_block.specs.Block.{level_of};
+ghost use Rattle.integ_block.specs.Child.{child_of};
+ghost use Rattle.integ_walk.specs.Link.{links_of};
 ghost use Rattle.std.specs.Option.{option_to_list, ForSome};
 ghost use Rattle.gds_header.specs.Fields.{block_of};
 ghost use Rattle.gds_header.specs.Kinds.{IsWithinLimits};
@@ -12,12 +16,12 @@ ghost use Rattle.integ_walk.specs.Walker.{Begins, ComesOn, IsState, entered, mos
 
 use crate::Seen;
 use crate::block_set::BlockSet;
-use crate::frame::Frame;
+use crate::frame::{Frame, next_link};
 use crate::link::Link;
 use gds_header::Header;
 use gds_law::{FaultSink, Path, Role, Visit};
-use host_model::UnitSource;
-use integ_block::{At, IntegError, block_faults};
+use host_model::{UnitSource, UnitTrouble};
+use integ_block::{At, Child, IntegError, block_faults};
 use std::alloc::{AllocError, Global};
 
 /// The directory's root.
@@ -110,7 +114,7 @@ impl<'a> Walker<'a> {
             (F.listed sink.new) (state_of self.new) result) }
         ensures cause { HasCause U.image U.failures F.failures units.old units.new sink.old sink.new result }
     {
-        while let Some(link) = self.next_link() {
+        while let Some(link) = next_link(&mut self.frames) {
             if self.follow(link, units, sink)? {
                 return Ok(true);
             }
@@ -170,17 +174,47 @@ impl<'a> Walker<'a> {
         ensures header { self.new.header.now ≡ self.old.header.now }
         ensures cause { HasCause U.image U.failures F.failures units.old units.new sink.old sink.new result }
     {
-        units.unit(at.visit.block + 1, &mut self.block)?;
+        self.read(at.visit.block, units)?;
         let mut children = Vec::new(self.alloc);
         self.faults += block_faults(&self.block, &at, self.header, sink, &mut children)?;
-        if !children.is_empty() {
-            self.frames.push(Frame {
-                path: at.path,
-                block: at.visit.block,
-                level: self.block[3],
-                children: children.into_iter(),
-            })?;
+        self.push(at, children)?;
+        Ok(())
+    }
+
+    /// Reads the bytes of a block.
+    fn read<U: UnitSource>(&mut self, block: u32, units: &mut U) -> Result<(), UnitTrouble>
+        requires limits { IsWithinLimits self.old.header.now }
+        requires within { block < self.old.header.now.total }
+        requires buffer { length self.old.block.items ≡ self.old.header.now.block_size }
+        requires header { ForSome (U.image units.old) (IsHeaderOf self.old.header.now) }
+        ensures bytes { ForSome (U.image units.old) (λ file. OnOk result (self.new.block.items ≡ block_of file block)) }
+        ensures buffer { length self.new.block.items ≡ length self.old.block.items }
+        ensures others { self.new ≡ record self.old { block = self.new.block } }
+        ensures image { U.image units.new ≡ U.image units.old }
+        ensures failures { U.failures units.old ≤ U.failures units.new }
+        ensures failed { IsErrOf result UnitTrouble.Failed → Rose (U.failures units.old) (U.failures units.new) }
+        ensures changed { (unit : ℕ) → IsErrOf result (UnitTrouble.Changed unit) → U.image units.old ≡ None }
+    {
+        units.unit(block + 1, &mut self.block)
+    }
+
+    /// Keeps the children of the block that was read last.
+    fn push(&mut self, at: At, children: Vec<Child>) -> Result<(), AllocError>
+        requires { 4 ≤ length self.old.block.items }
+        ensures links { OnOk result ((state_of self.new).links
+            ≡ links_of at.path at.visit.block (level_of self.old.block.items) (map child_of children.items)
+            ++ (state_of self.old).links) }
+        ensures others { self.new ≡ record self.old { frames = self.new.frames } }
+    {
+        if children.is_empty() {
+            return Ok(());
         }
+        self.frames.push(Frame {
+            path: at.path,
+            block: at.visit.block,
+            level: self.block[3],
+            children: children.into_iter(),
+        })?;
         Ok(())
     }
 
@@ -193,20 +227,5 @@ impl<'a> Walker<'a> {
             used: self.used.bytes,
             faults: self.faults,
         }
-    }
-
-    /// Takes out the next link.
-    fn next_link(&mut self) -> Option<Link>
-        ensures links { (state_of self.old).links
-            ≡ option_to_list (option_map link_of result) ++ (state_of self.new).links }
-        ensures others { self.new ≡ record self.old { frames = self.new.frames } }
-    {
-        while let Some(frame) = self.frames.last_mut() {
-            if let Some(link) = frame.next_link() {
-                return Some(link);
-            }
-            self.frames.pop();
-        }
-        None
     }
 }
