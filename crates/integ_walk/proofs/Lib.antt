@@ -5,5 +5,6 @@ pub mod ProgressLemmas
 pub mod ChildLemmas
 pub mod UnitLemmas
 pub mod BitLemmas
+pub mod ResultLemmas
 pub mod StateLemmas
 pub mod FrameLemmas

@@ -88,12 +88,15 @@ few_free bytes (suc n) = cond_both (has_block bytes n) 0 1 (λ k. free_below byt
 
 -- ---- the first state, and a state without its next link
 
-pub state_new : (h : Header) (used : List ℕ) → IsWithinLimits h → length used ≡ (h.total + 7) / 8 → IsState (record { header = h; used = used; count = 0; links = [] })
-state_new h used limits room = record {
+pub state_new : (s : State) → IsWithinLimits s.header → length s.used ≡ (s.header.total + 7) / 8 → s.count ≡ 0 → s.links ≡ [] → IsState s
+state_new s limits room none nil = record {
   limits = limits;
   room = room;
-  sound = λ link c. absurd (in_from_Contains [] link c);
-  few = let most : free_below used h.total * most_of_block h ≤ h.total * most_of_block h = mul-le-mul_right (most_of_block h) (few_free used h.total) in omega (arith, most);
+  sound = λ link c. absurd (in_from_Contains [] link (subst (λ ls. Contains ls link) nil c));
+  few =
+      let most : free_below s.used s.header.total * most_of_block s.header ≤ s.header.total * most_of_block s.header =
+          mul-le-mul_right (most_of_block s.header) (few_free s.used s.header.total) in
+      omega (arith, most, none, ap length nil);
 }
 
 pub state_tail : (s : State) (link : Link) → IsState (with_link link s) → IsState s
@@ -184,6 +187,9 @@ module _ (image : List ℕ) (kept reached : List Steps) (ak : AreKept image kept
   on_front now s on =
       let later = come_front image kept reached ak ar on.faults (has_block s.used) s.links on.come in
       IsCut-front old now on.faults later.0 (tree_faults image kept reached) later.1 (IsCut-all old now on.faults on.listed)
+
+  pub on_at : (now later : List Fault) (s t : State) → later ≡ now → t ≡ s → On now s → On later t
+  on_at now later s t e f on = subst (λ fs. On fs t) (sym e) (subst (On now) (sym f) on)
 
   -- Where no link is left all were.
   pub on_end : (now : List Fault) (s : State) → s.links ≡ [] → On now s

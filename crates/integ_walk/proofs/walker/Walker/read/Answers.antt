@@ -1,8 +1,9 @@
 use Rattle.std.proofs.Common.{◌≡◌, ℕ, ◌+◌, List, ◌++◌, length, take, ◌∙◌, sym, ap, subst, arith}
-use Rattle.std.specs.Prelude.{Result, Ok, Err, OnOk, Option, Some, IfSome}
+use Rattle.std.specs.Prelude.{Option, IfSome}
 use Rattle.std.proofs.Math.Seq.{take-append_seam}
 use Rattle.host_model.specs.Units.{unit_bytes}
 use Rattle.gds_header.specs.declared.header.Header.{Header}
+use Rattle.integ_walk.proofs.ResultLemmas.{on_ok}
 use Rattle.integ_walk.proofs.UnitLemmas.{is_unit, unit_is}
 use Rattle.integ_walk.proofs.walker.Walker.read.Goals as goal
 
@@ -12,10 +13,6 @@ unit-requires g c x tells =
     is_unit x c.args.block (length c.deref_mut.result.now) head.readable
     (omega (arith, c.requires.within, ap (λ (h : Header). h.total) head.same))
     (omega (arith, c.requires.buffer, c.deref_mut.ensures.len, c.deref_mut.ensures.value, ap (λ (h : Header). h.block_size) head.same))
-
-on_ok : {T E : Type 0} (r : Result T E) (P Q : Type 0) → OnOk r P → (P → Q) → OnOk r Q
-on_ok (Ok x) P Q h f = f h
-on_ok (Err e) P Q h f = tt
 
 front : (n : ℕ) (out rest : List ℕ) → length out ≡ n → take n (out ++ rest) ≡ out
 front n out rest e = ap (λ k. take k (out ++ rest)) (sym e) ∙ take-append_seam out rest
