@@ -37,6 +37,14 @@ with_other old new block b more n = more b ∙ ap (λ t. t || has_block old b) (
 with_itself : (old new : List ℕ) (block : ℕ) → IsWith old block new → has_block new block ≡ true
 with_itself old new block more = more block ∙ ap (λ t. t || has_block old block) (eq-eqb block block refl)
 
+-- A block that is in the set changes nothing.
+pub with_same : (old new : List ℕ) (block : ℕ) → IsWith old block new → has_block old block ≡ true → (b : ℕ) → has_block new b ≡ has_block old b
+with_same old new block more there b =
+    elim (cases_eq b block) [
+      | inl e ↦ ap (has_block new) e ∙ with_itself old new block more ∙ sym there ∙ ap (has_block old) (sym e)
+      | inr n ↦ with_other old new block b more n
+    ]
+
 same_free : (old new : List ℕ) (block n : ℕ) → IsWith old block new → n ≤ block → free_below new n ≡ free_below old n
 unfolding free_below
 same_free old new block zero more h = refl
