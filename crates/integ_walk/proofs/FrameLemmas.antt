@@ -48,3 +48,9 @@ module _ (frames : List Frame) (k : ℕ) (old new : Frame) (last : k + 1 ≡ len
     where
       take_front : (xs ys : List Frame) (n : ℕ) → length xs ≡ n → take n (xs ++ ys) ≡ xs
       take_front xs ys n e = ap (λ m. take m (xs ++ ys)) (sym e) ∙ take-append_seam xs ys
+
+-- No frames have no links.
+pub links_none : (frames : List Frame) → length frames ≡ 0 → all_links frames ≡ []
+unfolding all_links
+links_none [] e = refl
+links_none (f ∷ fs) e = absurd (omega (arith, e))

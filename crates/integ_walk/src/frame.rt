@@ -36,7 +36,9 @@ impl Frame {
 
 /// Takes the next link out of the last of the frames that has one, and the frames behind that one too.
 pub(crate) fn next_link(frames: &mut Vec<Frame>) -> Option<Link>
-    ensures { all_links frames.old.items ≡ option_to_list (option_map link_of result) ++ all_links frames.new.items }
+    ensures links { all_links frames.old.items
+        ≡ option_to_list (option_map link_of result) ++ all_links frames.new.items }
+    ensures end { IfNone result (all_links frames.new.items ≡ []) }
 {
     while let Some(last) = frames.len().checked_sub(1) {
         if let Some(link) = frames[last].next_link() {

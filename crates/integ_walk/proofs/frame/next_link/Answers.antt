@@ -1,10 +1,10 @@
 use Rattle.std.proofs.Common.{◌≡◌, ◌+◌, ◌-◌, [], ◌∷◌, length, take, slice_set, ◌∙◌, sym, ap, arith}
 use Rattle.integ_walk.specs.Frame.{all_links, link_of}
-use Rattle.integ_walk.proofs.FrameLemmas.{links_given, links_gone, take_set}
+use Rattle.integ_walk.proofs.FrameLemmas.{links_given, links_gone, links_none, take_set}
 use Rattle.integ_walk.proofs.frame.next_link.Goals as goal
 
-pub returns-in-Some-next_link : goal.returns-in-Some-next_link
-returns-in-Some-next_link c =
+pub returns-in-Some-next_link-clause-links : goal.returns-in-Some-next_link-clause-links
+returns-in-Some-next_link-clause-links c =
     let frames = c.loop-last.frames.items in
     let last : c.in-Some.last + 1 ≡ length frames = omega (arith, c.in-Some.ensures, c.len.ensures) in
     c.loop-last.invariant
@@ -24,3 +24,6 @@ loop-last-preserved-in_default-next_link c =
     ∙ ap all_links (sym (take_set frames k old new last c.index_mut.ensures.value))
     ∙ ap (λ n. all_links (take n (slice_set frames k new))) less
     ∙ ap all_links (sym c.pop.ensures.rest)
+
+pub returns-clause-end : goal.returns-clause-end
+returns-clause-end c = links_none c.loop-last.frames.items (omega (arith, c.in_default.ensures, c.len.ensures))
