@@ -15,7 +15,7 @@ use Rattle.m_key.proofs.Numbers.{numbers}
 use Rattle.gds_block.specs.Record.{Record, records_of}
 use Rattle.gds_header.specs.declared.header.Header.{Header}
 use Rattle.gds_cli.specs.Thin.{Valued, AreRecordsOf, IsLeaf, IsGlobal, IsThin, IsThinWith}
-use Rattle.gds_cli.proofs.LeafRead.{one_record}
+use Rattle.gds_cli.proofs.LeafReadingLemmas.{one_record}
 
 -- ---- one list of nodes
 

@@ -1,21 +1,11 @@
 //! The program `gds PATH WORDS`: one command on the database at PATH, and its answer on standard output.
 #![tactic(auto)]
 
-mod call;
-mod header;
-mod laws;
-mod status;
-mod thin;
-mod words;
-
-pub use call::{Ended, gds};
+use gds_cli::{Status, gds};
 use host_file::{FileHost, StdinSource};
-pub use laws::one_reply;
-pub use status::Status;
-use std::alloc::{AllocError, Global};
+use std::alloc::AllocError;
 use std::env;
 use std::process::ExitCode;
-pub use words::{BadWords, Command, read_words};
 
 /// The exit status where the arguments can't be had, as where one isn't UTF-8.
 const NO_ARGUMENTS: u8 = 24;
@@ -46,6 +36,3 @@ fn main(rt: HostRuntime) -> ExitCode {
     };
     ExitCode::from(outcome.unwrap_or(Status::Memory.code()))
 }
-
-#[cfg(test)]
-mod tests;

@@ -13,7 +13,7 @@ use Rattle.gds_header.specs.declared.kind.HeaderKind.{HeaderKind}
 use Rattle.gds_header.specs.declared.kind.HeaderKind.TheVariants.{ShortHeader, NotDatabase, BlockSizeNotMultiple, BlockSizeTooLarge, NoBlocks, BadLimit, ShortFile, LongFile, ReservedByte, BadTransactionNumber}
 use Rattle.gds_header.specs.Kinds.{IsWithinLimits, holds, ends, kinds, through_first, header_faults, ending_kind, reserved_bytes, has_free, groups_past}
 use Rattle.gds_header.proofs.EndingLemmas.{fields_of-front, ending_kind-short}
-use Rattle.gds_cli.specs.Reading.{IsHeaderOf, are_zeros, is_clear, is_sound}
+use Rattle.gds_cli.specs.SoundHeader.{IsHeaderOf, are_zeros, is_clear, is_faultless}
 
 -- where nothing is left of the front up to the first that ends, no kind holds
 none_passes : {A : Type 0} (ending holding : A → Bool) (xs : List A) → through_first ending (filter holding xs) ≡ [] → list_any holding xs ≡ false
@@ -141,7 +141,7 @@ module _ (h : Header) (d front : List ℕ) (size : ℕ) (begins : take 8192 d �
   fields : fields_of d ≡ h
   fields = sym (fields_of-front 8192 d (lit≤ tt)) ∙ ap fields_of begins ∙ sym is
 
-  pub sound_header : IsWithinLimits h → is_sound h front size ≡ true → IsHeaderOf h d
+  pub sound_header : IsWithinLimits h → is_faultless h front size ≡ true → IsHeaderOf h d
   sound_header limits sound =
       let first = and_parts (eqb (file_length_of h) size) (is_clear h front && (leb 1 h.tn && leb h.tn (2 ^ 63))) sound in
       let second = and_parts (is_clear h front) (leb 1 h.tn && leb h.tn (2 ^ 63)) first.1 in
@@ -160,7 +160,7 @@ module _ (h : Header) (d front : List ℕ) (size : ℕ) (begins : take 8192 d �
         sound = none_past d (ending ∙ ap (λ b. cond b (Some ShortFile) None) none) past;
       }
 
-  pub not_sound : is_sound h front size ≡ false → header_faults d ≡ [] → ⊥
+  pub not_sound : is_faultless h front size ≡ false → header_faults d ≡ [] → ⊥
   not_sound unsound none =
       let parts = past_none d none in
       let shorter : ltb (length d) (file_length_of h) ≡ false = sym (ap (λ (k : Header). ltb (length d) (file_length_of k)) fields) ∙ parts.1 in
@@ -168,7 +168,7 @@ module _ (h : Header) (d front : List ℕ) (size : ℕ) (begins : take 8192 d �
       let same : eqb (file_length_of h) size ≡ true = ap (eqb (file_length_of h)) (sym long) ∙ equal_test _ _ longer shorter in
       let clear : is_clear h front ≡ true = clear_is h front ∙ ap not (sym (marked_in h d front begins fields) ∙ parts.0.reserved) in
       let number = number_test h.tn (2 ^ 63) (sym (ap (λ (k : Header). eqb k.tn 0 || ltb (2 ^ 63) k.tn) fields) ∙ parts.0.number) in
-      let sound : is_sound h front size ≡ true = rw (same, clear, number.0, number.1) in
+      let sound : is_faultless h front size ≡ true = rw (same, clear, number.0, number.1) in
       cc
 
 pub no_ending : (d : List ℕ) (kind : HeaderKind) → ending_kind d ≡ Some kind → header_faults d ≡ [] → ⊥

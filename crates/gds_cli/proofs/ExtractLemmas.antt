@@ -8,13 +8,15 @@ use Rattle.m_key.specs.Globals.{Globals}
 use Rattle.m_text.specs.Extract.{zwr, head_lines, zwr_node}
 use Rattle.gds_header.specs.declared.header.Header.{Header}
 use Rattle.gds_cli.specs.Thin.{IsThinWith}
-use Rattle.gds_cli.specs.Reading.{IsHeaderOf, AreLeaves, FindsThin, IsLeafAt}
+use Rattle.gds_cli.specs.SoundHeader.{IsHeaderOf}
+use Rattle.gds_cli.specs.Directory.{AreLeaves, FindsThin}
+use Rattle.gds_cli.specs.Leaf.{IsLeafAt}
+use Rattle.gds_cli.specs.Extract.{BreaksOff, ExtractEnds}
 use Rattle.gds_cli.specs.Answer.{Reply, ExtractDue, not_built}
 use Rattle.gds_cli.specs.declared.status.Status.TheVariants as ended
-use Rattle.gds_cli.specs.Saying.{BreaksOff, ExtractEnds}
-use Rattle.gds_cli.proofs.LeafLaws.{thin_with, thin_entries, one_map}
-use Rattle.gds_cli.proofs.ThinSaying.{SaidFront, said_none, texts_of_lists}
-use Rattle.gds_cli.proofs.ThinTrees.{leaves_at}
+use Rattle.gds_cli.proofs.LeafLemmas.{thin_with, thin_entries, one_map}
+use Rattle.gds_cli.proofs.SayingLemmas.{SaidFront, said_none, texts_of_lists}
+use Rattle.gds_cli.proofs.DirectoryLemmas.{leaves_at}
 
 -- the test's parts are thin files
 pub finds : (d b : List ℕ) (h : Header) (leaves : List ℕ) → IsHeaderOf h d → IsTrue (starts_with nat_eq b (codes "GDSBIMG1" ++ 0 ∷ [])) → AreLeaves d leaves → FindsThin d b h leaves

@@ -1,4 +1,4 @@
--- What parts of an extract have said when they end.
+-- What an extract and its parts have said when they end.
 use Rattle.std.specs.Prelude.{ℕ, ◌≡◌, Bool, true, false, List, take, Option, Some, Result, MatchResult}
 use Rattle.host_model.specs.Files.{Contents, saying}
 use Rattle.m_key.specs.Globals.{Globals}

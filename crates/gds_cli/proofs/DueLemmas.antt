@@ -4,7 +4,7 @@ use Rattle.std.specs.Prelude.{MatchBool, IsSomeAnd}
 use Rattle.std.specs.Option.{ForSome}
 use Rattle.arrayvec.specs.ArrayVec.{ArrayVec}
 use Rattle.host_model.specs.Files.{Contents, saying}
-use Rattle.host_model.specs.Failures.{Failures, NoneRose, Rose}
+use Rattle.host_model.specs.Failures.{Failures, NoneRose}
 use Rattle.host_model.specs.Told.{TellsOn}
 use Rattle.m_key.specs.Globals.{Globals}
 use Rattle.m_text.specs.Extract.{zwr}
@@ -13,10 +13,11 @@ use Rattle.gds_cli.specs.declared.words.Command.TheVariants.{Version, Integ, Ext
 use Rattle.gds_cli.specs.declared.words.BadWords.{BadWords}
 use Rattle.gds_cli.specs.declared.status.Status.{Status}
 use Rattle.gds_cli.specs.declared.status.Status.TheVariants as ended
+use Rattle.gds_cli.specs.Status.{HasCause}
 use Rattle.gds_cli.specs.Thin.{IsThinWith}
 use Rattle.gds_cli.specs.Answer.{Reply, Answers, SaysFront, Due, Ends, ExtractDue, not_built, is_break}
-use Rattle.gds_cli.specs.Saying.{BreaksOff, SaysThin}
-use Rattle.gds_cli.proofs.LeafLaws.{one_map}
+use Rattle.gds_cli.specs.Extract.{BreaksOff, SaysThin}
+use Rattle.gds_cli.proofs.LeafLemmas.{one_map}
 
 one_extract : (stamp : List ℕ) (c : Contents) (r s : Reply) → ExtractDue stamp c r → ExtractDue stamp c s → r ≡ s
 one_extract stamp c r s p q =
@@ -140,7 +141,11 @@ ends_whole due ended.ReadFault before after e read say = absurd (read refl)
 ends_whole due ended.SayFault before after e read say = absurd (say refl)
 ends_whole due other before after e read say = inr (e.0, e.1, e.2, ap Some e.3)
 
-pub complete : (told now : Option Contents) (due : Contents → Reply → Type 0) (status : Status) (f g : Failures) → TellsOn told now (λ before after. Ends (due before) status before after) → (status ≡ ended.ReadFault → Rose f.read g.read) → (status ≡ ended.SayFault → Rose f.say g.say) → NoneRose f g → IfSome told (λ before. (status ≡ ended.Memory) ⊎ ((reply : Reply) × due before reply × (status ≡ reply.status) × (now ≡ Some (saying before reply.text))))
-complete None now due status f g goes read say none = tt
-complete (Some c) None due status f g goes read say none = absurd goes
-complete (Some c) (Some d) due status f g goes read say none = ends_whole (due c) status c d goes (λ is. none.read (read is)) (λ is. none.say (say is))
+pub complete : (told now : Option Contents) (due : Contents → Reply → Type 0) (status : Status) (f g : Failures)
+    → TellsOn told now (λ before after. Ends (due before) status before after) → HasCause status f g → NoneRose f g
+    → IfSome told (λ before. (status ≡ ended.Memory)
+    ⊎ ((reply : Reply) × due before reply × (status ≡ reply.status) × (now ≡ Some (saying before reply.text))))
+complete None now due status f g goes cause none = tt
+complete (Some c) None due status f g goes cause none = absurd goes
+complete (Some c) (Some d) due status f g goes cause none =
+    ends_whole (due c) status c d goes (λ is. none.read (cause.read_fault is)) (λ is. none.say (cause.say_fault is))

@@ -4,7 +4,7 @@ use Rattle.std.proofs.Math.Seq.{take-append-add, take-append_seam}
 use Rattle.std.proofs.lemmas.List.{take-append-le, take_min, take_more, get_or_default}
 use Rattle.std.specs.List.{AllZip}
 use Rattle.host_model.specs.Files.{Contents, saying}
-use Rattle.gds_cli.specs.Saying.{SaidOf}
+use Rattle.gds_cli.specs.Extract.{SaidOf}
 
 -- some of the text was said
 abbrev pub SaidFront : Contents → List ℕ → Option Contents → Type 0

@@ -6,11 +6,13 @@ use Rattle.std.proofs.lemmas.List.{take_more, map-append}
 use Rattle.m_key.proofs.FillLemmas.{flat_map_map}
 use Rattle.gds_header.specs.declared.header.Header.{Header}
 use Rattle.gds_header.specs.Fields.{block_of}
-use Rattle.gds_cli.specs.Thin.{Valued, is_block_number, is_star_block, child_of, IsLeaf, IsGlobal, IsThin, root_of, leaf_of, blocks_of}
-use Rattle.gds_cli.specs.Reading.{IsHeaderOf, IsEntry, IsNodeOf, AreNodesOf, LeadsTo, AreTrees, AreLeaves, IsLeafAt, tree_at, blocks_in}
-use Rattle.gds_cli.specs.declared.thin.directory.Tree.{Tree}
-use Rattle.gds_cli.proofs.LeafLaws.{one_leaf}
-use Rattle.gds_cli.proofs.ThinBlocks.{child_within}
+use Rattle.gds_cli.specs.Thin.{Valued, is_block_number, is_star_block, star_child, IsLeaf, IsGlobal, IsThin, root_of, leaf_of, blocks_of}
+use Rattle.gds_cli.specs.SoundHeader.{IsHeaderOf}
+use Rattle.gds_cli.specs.Directory.{IsEntry, IsNodeOf, AreNodesOf, LeadsTo, AreTrees, AreLeaves, thin_tree_at, blocks_in}
+use Rattle.gds_cli.specs.Leaf.{IsLeafAt}
+use Rattle.gds_cli.specs.declared.thin.directory.ThinTree.{ThinTree}
+use Rattle.gds_cli.proofs.LeafLemmas.{one_leaf}
+use Rattle.gds_cli.proofs.BlockLemmas.{child_within}
 
 pub number_within : (h : Header) (n : ℕ) → IsTrue (is_block_number h n) → n < h.total
 number_within h n is = grind (arith, nat_tests)
@@ -61,9 +63,9 @@ module _ (h : Header) (d : List ℕ) (entry : Valued) (root leaf : ℕ) (block :
   }
 
   is_leaf : LeadsTo h d root leaf block → leaf ≡ leaf_of d entry
-  is_leaf lead = lead.number_is ∙ ap (λ n. child_of (block_of d n)) is_root
+  is_leaf lead = lead.number_is ∙ ap (λ n. star_child (block_of d n)) is_root
 
-  pub is_tree : LeadsTo h d root leaf block → record { root = root; leaf = leaf } ≡ tree_at d entry
+  pub is_tree : LeadsTo h d root leaf block → record { root = root; leaf = leaf } ≡ thin_tree_at d entry
   is_tree lead = let l = is_leaf lead in λ i. record { root = is_root i; leaf = l i }
 
   leaf_bytes : LeadsTo h d root leaf block → block ≡ block_of d (leaf_of d entry)
@@ -102,12 +104,12 @@ module _ (h : Header) (d : List ℕ) (entry : Valued) (root leaf : ℕ) (block :
 pub trees_none : (d : List ℕ) → AreTrees d [] []
 trees_none d = record { globals = []; each = tt; blocks = refl }
 
-pub trees_more : (d : List ℕ) (es fs : List Valued) (ts us : List Tree) (e : Valued) (t : Tree) (vs : List Valued) → AreTrees d es ts → fs ≡ es ++ e ∷ [] → us ≡ ts ++ t ∷ [] → t ≡ tree_at d e → IsGlobal d e vs → AreTrees d fs us
+pub trees_more : (d : List ℕ) (es fs : List Valued) (ts us : List ThinTree) (e : Valued) (t : ThinTree) (vs : List Valued) → AreTrees d es ts → fs ≡ es ++ e ∷ [] → us ≡ ts ++ t ∷ [] → t ≡ thin_tree_at d e → IsGlobal d e vs → AreTrees d fs us
 trees_more d es fs ts us e t vs before more pushed is global = record {
   globals = before.globals ++ vs ∷ [];
   each = subst (λ (xs : List Valued). AllZip (IsGlobal d) xs (before.globals ++ vs ∷ [])) (sym more) (zip_push (IsGlobal d) es before.globals e vs before.each global);
-  blocks = pushed ∙ ap (λ xs. xs ++ t ∷ []) before.blocks ∙ ap (λ x. map (tree_at d) es ++ x ∷ []) is
-      ∙ sym (map-append (tree_at d) es (e ∷ [])) ∙ ap (map (tree_at d)) (sym more);
+  blocks = pushed ∙ ap (λ xs. xs ++ t ∷ []) before.blocks ∙ ap (λ x. map (thin_tree_at d) es ++ x ∷ []) is
+      ∙ sym (map-append (thin_tree_at d) es (e ∷ [])) ∙ ap (map (thin_tree_at d)) (sym more);
 }
 
 -- ---- the leaf of the directory
@@ -115,34 +117,34 @@ trees_more d es fs ts us e t vs before more pushed is global = record {
 pub top_leaf : (h : Header) (d b : List ℕ) (number : ℕ) (block : List ℕ) (directory : List Valued) (globals : List (List Valued)) → IsHeaderOf h d → LeadsTo h d 1 number block → IsThin d b directory globals → IsLeaf h block directory
 top_leaf h d b number block directory globals head lead thin =
     subst (λ x. IsLeaf h x directory) (sym (lead.bytes ∙ ap (block_of d) lead.number_is))
-    (subst (λ k. IsLeaf k (block_of d (child_of (block_of d 1))) directory) head.fields thin.leaf)
+    (subst (λ k. IsLeaf k (block_of d (star_child (block_of d 1))) directory) head.fields thin.leaf)
 
 pub top_star : (h : Header) (d b : List ℕ) (directory : List Valued) (globals : List (List Valued)) → IsHeaderOf h d → IsThin d b directory globals → IsTrue (is_star_block h (block_of d 1))
 top_star h d b directory globals head thin = subst (λ k. IsTrue (is_star_block k (block_of d 1))) head.fields thin.star
 
-blocks_same : (d : List ℕ) (number : ℕ) (es : List Valued) (ts : List Tree) → number ≡ child_of (block_of d 1) → ts ≡ map (tree_at d) es → blocks_in number ts ≡ blocks_of d es
+blocks_same : (d : List ℕ) (number : ℕ) (es : List Valued) (ts : List ThinTree) → number ≡ star_child (block_of d 1) → ts ≡ map (thin_tree_at d) es → blocks_in number ts ≡ blocks_of d es
 blocks_same d number es ts is trees =
-    let tail = ap (flat_map (λ (t : Tree). t.root ∷ t.leaf ∷ [])) trees ∙ flat_map_map (λ (t : Tree). t.root ∷ t.leaf ∷ []) (tree_at d) es in
+    let tail = ap (flat_map (λ (t : ThinTree). t.root ∷ t.leaf ∷ [])) trees ∙ flat_map_map (λ (t : ThinTree). t.root ∷ t.leaf ∷ []) (thin_tree_at d) es in
     λ i. 1 ∷ is i ∷ tail i
 
-leaves_same : (d : List ℕ) (es : List Valued) → map (λ (t : Tree). t.leaf) (map (tree_at d) es) ≡ map (leaf_of d) es
+leaves_same : (d : List ℕ) (es : List Valued) → map (λ (t : ThinTree). t.leaf) (map (thin_tree_at d) es) ≡ map (leaf_of d) es
 leaves_same d [] = refl
 leaves_same d (e ∷ es) = ap (λ xs. leaf_of d e ∷ xs) (leaves_same d es)
 
-pub leaves_found : (h : Header) (d : List ℕ) (number : ℕ) (block : List ℕ) (entries : List Valued) (trees : List Tree) (leaves : List ℕ) → IsHeaderOf h d → LeadsTo h d 1 number block → IsLeaf h block entries → AreTrees d entries trees → IsDistinct eqb (blocks_in number trees) → leaves ≡ map (λ (t : Tree). t.leaf) trees → AreLeaves d leaves
+pub leaves_found : (h : Header) (d : List ℕ) (number : ℕ) (block : List ℕ) (entries : List Valued) (trees : List ThinTree) (leaves : List ℕ) → IsHeaderOf h d → LeadsTo h d 1 number block → IsLeaf h block entries → AreTrees d entries trees → IsDistinct eqb (blocks_in number trees) → leaves ≡ map (λ (t : ThinTree). t.leaf) trees → AreLeaves d leaves
 leaves_found h d number block entries trees leaves head lead leaf found distinct numbers = record {
   directory = entries;
   globals = found.globals;
   star = subst (λ k. IsTrue (is_star_block k (block_of d 1))) (sym head.fields) lead.star;
-  leaf = subst (λ k. IsLeaf k (block_of d (child_of (block_of d 1))) entries) (sym head.fields)
+  leaf = subst (λ k. IsLeaf k (block_of d (star_child (block_of d 1))) entries) (sym head.fields)
       (subst (λ x. IsLeaf h x entries) (lead.bytes ∙ ap (block_of d) lead.number_is) leaf);
   each = found.each;
   distinct = subst (IsDistinct eqb) (blocks_same d number entries trees lead.number_is found.blocks) distinct;
-  numbers = numbers ∙ ap (map (λ (t : Tree). t.leaf)) found.blocks ∙ leaves_same d entries;
+  numbers = numbers ∙ ap (map (λ (t : ThinTree). t.leaf)) found.blocks ∙ leaves_same d entries;
 }
 
 -- blocks with two uses are no thin files'
-pub not_distinct : (h : Header) (d b : List ℕ) (number : ℕ) (block : List ℕ) (entries directory : List Valued) (globals : List (List Valued)) (trees : List Tree) → IsHeaderOf h d → LeadsTo h d 1 number block → IsLeaf h block entries → AreTrees d entries trees → (IsDistinct eqb (blocks_in number trees) → ⊥) → IsThin d b directory globals → ⊥
+pub not_distinct : (h : Header) (d b : List ℕ) (number : ℕ) (block : List ℕ) (entries directory : List Valued) (globals : List (List Valued)) (trees : List ThinTree) → IsHeaderOf h d → LeadsTo h d 1 number block → IsLeaf h block entries → AreTrees d entries trees → (IsDistinct eqb (blocks_in number trees) → ⊥) → IsThin d b directory globals → ⊥
 not_distinct h d b number block entries directory globals trees head lead leaf found twice thin =
     let same : directory ≡ entries = one_leaf h block directory entries (top_leaf h d b number block directory globals head lead thin) leaf in
     twice (subst (IsDistinct eqb) (ap (blocks_of d) same ∙ sym (blocks_same d number entries trees lead.number_is found.blocks)) thin.distinct)
