@@ -10,7 +10,7 @@ ghost use Rattle.gds_header.specs.Kinds.{IsWithinLimits};
 ghost use Rattle.gds_cli.specs.Thin.{Valued, IsRecordOf, IsLeaf, child_of, is_block_number, is_star_block};
 ghost use Rattle.gds_cli.specs.LeafSeen.{valued, end_after, IsSplit, IsListed};
 
-use gds_block::{BlockView, RecordView};
+use gds_block::{BlockView, RecordView, u16_at, u32_at};
 use gds_header::Header;
 use m_key::{Key, Reference, reference_of};
 use std::alloc::{AllocError, Global};
@@ -171,9 +171,9 @@ pub(crate) fn star_child(header: &Header, block: &[u8]) -> Option<u32>
     if view.version() != 1 || view.reserved() != 0 || view.level() != 1 || view.used() != 24 {
         return None;
     }
-    let size = u16::from_le_bytes([block[16], block[17]]);
-    let count = u16::from_le_bytes([block[18], block[19]]);
-    let child = u32::from_le_bytes([block[20], block[21], block[22], block[23]]);
+    let size = u16_at(block, 16);
+    let count = u16_at(block, 18);
+    let child = u32_at(block, 20);
     if size == 8 && count == 0 && is_block_number(header, child) {
         Some(child)
     } else {

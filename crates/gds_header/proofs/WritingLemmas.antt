@@ -4,19 +4,11 @@ use Rattle.std.specs.Prelude.{false, true, not, nat_eq, nat_lt, ◌||◌, ◌==�
 use Rattle.std.specs.List.{starts_with, concat}
 use Rattle.std.proofs.lemmas.Bool.Decides.{nat_tests}
 use Rattle.gds_header.specs.Kinds.{IsWithinLimits, keeps_limits, unreadable}
-use Rattle.std.specs.Int.{w32, w64, from_le_bytes}
 use Rattle.std.proofs.lemmas.List.{append_assoc, append-nil, take_at, drop_at, drop-drop, drop-replicate, length-replicate, replicate-append-replicate}
-use Rattle.std.proofs.lemmas.Nat.{from_le_bytes-to_le_bytes_4, from_le_bytes-to_le_bytes_8}
-use Rattle.gds_header.specs.Fields.{u32_at, u64_at, u32_bytes, u64_bytes, zeros, label, header_bytes, fields_of}
+use Rattle.gds_block.specs.Fields.{u32_bytes, u64_bytes, with_bytes}
+use Rattle.gds_block.proofs.FieldLemmas.{length-u32_bytes, length-u64_bytes, u32_at-here, u64_at-here}
+use Rattle.gds_header.specs.Fields.{zeros, label, header_bytes, fields_of}
 use Rattle.gds_header.specs.declared.header.Header.{Header}
-
-pub length-u32_bytes : (n : ℕ) → length (u32_bytes n) ≡ 4
-unfolding u32_bytes
-length-u32_bytes n = refl
-
-pub length-u64_bytes : (n : ℕ) → length (u64_bytes n) ≡ 8
-unfolding u64_bytes
-length-u64_bytes n = refl
 
 length-zeros : (n : ℕ) → length (zeros n) ≡ n
 unfolding zeros
@@ -40,12 +32,12 @@ record Filled (front whole : List ℕ) (len left : ℕ) : Type 0 where
   filled : length front ≡ len
 
 -- a piece that is put behind the front, and zeros that are left in front of the next
-filled_next : {front old : List ℕ} {at left : ℕ} (piece new : List ℕ) (m : ℕ) → Filled front old at left → length piece ≡ m → new ≡ take at old ++ (piece ++ drop (at + m) old) → Filled (front ++ piece) new (at + m) (left - m)
+filled_next : {front old : List ℕ} {at left : ℕ} (piece new : List ℕ) (m : ℕ) → Filled front old at left → length piece ≡ m → new ≡ with_bytes old at piece → Filled (front ++ piece) new (at + m) (left - m)
 filled_next {front} {old} {at} {left} piece new m was long now =
     let kept : take at old ≡ front = rw was.bytes (take_at front (zeros left) at was.filled) in
     let rest : drop (at + m) old ≡ zeros (left - m) = sym (drop-drop m at old) ∙ ap (λ x. drop m (drop at x)) was.bytes ∙ ap (drop m) (drop_at front (zeros left) at was.filled) ∙ drop-zeros m left in
     record {
-      bytes = rw (now, kept, rest) (sym (append_assoc front piece (zeros (left - m))));
+      bytes = rw (now, long, kept, rest) (sym (append_assoc front piece (zeros (left - m))));
       filled = length-append front piece ∙ ap (λ x. x + length piece) was.filled ∙ ap (λ x. at + x) long;
     }
 
@@ -58,14 +50,10 @@ filled_gap {front} {whole} {at} {left} gap more parts was = record {
 filled_left : {front whole : List ℕ} {len left : ℕ} (n : ℕ) → left ≡ n → Filled front whole len left → Filled front whole len n
 filled_left {front} {whole} {len} n same was = subst (λ k. Filled front whole len k) same was
 
--- a piece of a length at a place
-abbrev pub IsPut : ℕ → ℕ → List ℕ → List ℕ → List ℕ → Type 0
-IsPut at m piece old new = new ≡ take at old ++ (piece ++ drop (at + m) old)
-
 joined : (a b c d e f g h i j k l m : List ℕ) → a ++ b ++ c ++ d ++ e ++ f ++ g ++ h ++ i ++ j ++ k ++ l ++ m ≡ concat (a ∷ b ∷ c ∷ d ∷ e ∷ f ∷ g ∷ h ∷ i ∷ j ∷ k ∷ l ∷ m ∷ [])
 joined a b c d e f g h i j k l m = simp (append_assoc, append-nil)
 
-pub written : (h : Header) (a b c d e f g i j k l : List ℕ) → length h.master ≡ 256 → a ≡ zeros 8192 → IsPut 0 8 label a b → IsPut 8 4 (u32_bytes h.block_size) b c → IsPut 12 4 (u32_bytes h.total) c d → IsPut 16 4 (u32_bytes h.free) d e → IsPut 20 4 (u32_bytes h.extension) e f → IsPut 24 4 (u32_bytes h.limit) f g → IsPut 28 4 (u32_bytes h.key_max) g i → IsPut 32 4 (u32_bytes h.value_max) i j → IsPut 40 8 (u64_bytes h.tn) j k → IsPut 4096 (length h.master) h.master k l → l ≡ header_bytes h
+pub written : (h : Header) (a b c d e f g i j k l : List ℕ) → length h.master ≡ 256 → a ≡ zeros 8192 → b ≡ with_bytes a 0 label → c ≡ with_bytes b 8 (u32_bytes h.block_size) → d ≡ with_bytes c 12 (u32_bytes h.total) → e ≡ with_bytes d 16 (u32_bytes h.free) → f ≡ with_bytes e 20 (u32_bytes h.extension) → g ≡ with_bytes f 24 (u32_bytes h.limit) → i ≡ with_bytes g 28 (u32_bytes h.key_max) → j ≡ with_bytes i 32 (u32_bytes h.value_max) → k ≡ with_bytes j 40 (u64_bytes h.tn) → l ≡ with_bytes k 4096 h.master → l ≡ header_bytes h
 unfolding header_bytes
 written h a b c d e f g i j k l master empty put_label put_block_size put_total put_free put_extension put_limit put_key_max put_value_max put_tn put_master =
     let start : Filled [] a 0 8192 = record { bytes = empty; filled = refl } in
@@ -82,17 +70,9 @@ written h a b c d e f g i j k l master empty put_label put_block_size put_total 
     let all = filled_left 3840 (ap (λ n. 4096 - n) master) done in
     all.bytes ∙ joined label (u32_bytes h.block_size) (u32_bytes h.total) (u32_bytes h.free) (u32_bytes h.extension) (u32_bytes h.limit) (u32_bytes h.key_max) (u32_bytes h.value_max) (zeros 4) (u64_bytes h.tn) (zeros 4048) h.master (zeros 3840)
 
--- what stands behind a piece, and the number that stands at a place
+-- what stands behind a piece
 past : (whole piece rest : List ℕ) (at m : ℕ) → drop at whole ≡ piece ++ rest → length piece ≡ m → drop (at + m) whole ≡ rest
 past whole piece rest at m here long = sym (drop-drop m at whole) ∙ ap (drop m) here ∙ drop_at piece rest m long
-
-u32_at-here : (whole rest : List ℕ) (at n : ℕ) → n < 2 ^ 32 → drop at whole ≡ u32_bytes n ++ rest → u32_at at whole ≡ n
-unfolding u32_at u32_bytes
-u32_at-here whole rest at n fits here = ap (λ x. from_le_bytes w32 (take 4 x)) here ∙ from_le_bytes-to_le_bytes_4 n fits
-
-u64_at-here : (whole rest : List ℕ) (at n : ℕ) → n < 2 ^ 64 → drop at whole ≡ u64_bytes n ++ rest → u64_at at whole ≡ n
-unfolding u64_at u64_bytes
-u64_at-here whole rest at n fits here = ap (λ x. from_le_bytes w64 (take 8 x)) here ∙ from_le_bytes-to_le_bytes_8 n fits
 
 -- the numbers of a header fit their types
 pub record Fit (h : Header) : Type 0 where

@@ -3,12 +3,12 @@ use Rattle.std.proofs.Common.{◌≡◌, ℕ, ◌+◌, ◌<◌, ◌≤◌, Bool,
 use Rattle.std.specs.Prelude.{find, filter, not, ◌||◌, ◌==◌, nat_lt, ◌%◌}
 use Rattle.std.specs.Option.{option_or}
 use Rattle.std.specs.List.{list_any, list_all}
-use Rattle.std.specs.Int.{w32, w64, from_le_bytes}
 use Rattle.std.proofs.lemmas.Bool.{or_parts, and_parts, cases_lt, cond-true, cond-false, cases_Bool, lt-ltb, le-ltb}
 use Rattle.std.proofs.lemmas.List.{take-take}
 use Rattle.std.proofs.lemmas.Option.{same_Some}
 use Rattle.std.proofs.lemmas.Slice.{between_is}
-use Rattle.gds_header.specs.Fields.{u32_at, u64_at, fields_of, image_length, file_length_of}
+use Rattle.gds_block.proofs.FieldLemmas.{u32_at-front, u64_at-front}
+use Rattle.gds_header.specs.Fields.{fields_of, image_length, file_length_of}
 use Rattle.gds_header.specs.Kinds.{EndsAlone, IsDecidedByFront, IsWithinLimits, keeps_limits, holds, ends, kinds, through_first, header_faults, ending_kind, unreadable}
 use Rattle.gds_header.specs.declared.kind.HeaderKind.{HeaderKind}
 use Rattle.gds_header.specs.declared.kind.HeaderKind.TheVariants.{ShortHeader, NotDatabase, BlockSizeNotMultiple, BlockSizeTooLarge, NoBlocks, BadLimit, ShortFile, LongFile, ReservedByte, BadTransactionNumber}
@@ -30,24 +30,16 @@ find-filter p q (x ∷ xs) =
 take-drop-front : {A : Type 0} (m n k : ℕ) (xs : List A) → n + m ≤ k → take m (drop n (take k xs)) ≡ take m (drop n xs)
 take-drop-front m n k xs fits = ap (take m) (sym (between_is xs n k)) ∙ take-take m _ (drop n xs) (omega arith)
 
-u32_at-front : (at k : ℕ) (image : List ℕ) → at + 4 ≤ k → u32_at at (take k image) ≡ u32_at at image
-unfolding u32_at
-u32_at-front at k image fits = ap (from_le_bytes w32) (take-drop-front 4 at k image fits)
-
-u64_at-front : (at k : ℕ) (image : List ℕ) → at + 8 ≤ k → u64_at at (take k image) ≡ u64_at at image
-unfolding u64_at
-u64_at-front at k image fits = ap (from_le_bytes w64) (take-drop-front 8 at k image fits)
-
 pub fields_of-front : (k : ℕ) (image : List ℕ) → 4352 ≤ k → fields_of (take k image) ≡ fields_of image
 fields_of-front k image fits =
-    let block_size = u32_at-front 8 k image (omega arith) in
-    let total = u32_at-front 12 k image (omega arith) in
-    let free = u32_at-front 16 k image (omega arith) in
-    let extension = u32_at-front 20 k image (omega arith) in
-    let limit = u32_at-front 24 k image (omega arith) in
-    let key_max = u32_at-front 28 k image (omega arith) in
-    let value_max = u32_at-front 32 k image (omega arith) in
-    let tn = u64_at-front 40 k image (omega arith) in
+    let block_size = u32_at-front k image 8 (omega arith) in
+    let total = u32_at-front k image 12 (omega arith) in
+    let free = u32_at-front k image 16 (omega arith) in
+    let extension = u32_at-front k image 20 (omega arith) in
+    let limit = u32_at-front k image 24 (omega arith) in
+    let key_max = u32_at-front k image 28 (omega arith) in
+    let value_max = u32_at-front k image 32 (omega arith) in
+    let tn = u64_at-front k image 40 (omega arith) in
     let master = take-drop-front 256 4096 k image (omega arith) in
     cc
 
@@ -55,13 +47,13 @@ pub unreadable-front : (k : ℕ) (image : List ℕ) → 4352 ≤ k → unreadabl
 unfolding unreadable
 unreadable-front k image fits =
     let label = take-take 8 k image (omega arith) in
-    let block_size = u32_at-front 8 k image (omega arith) in
-    let total = u32_at-front 12 k image (omega arith) in
-    let free = u32_at-front 16 k image (omega arith) in
-    let extension = u32_at-front 20 k image (omega arith) in
-    let limit = u32_at-front 24 k image (omega arith) in
-    let key_max = u32_at-front 28 k image (omega arith) in
-    let value_max = u32_at-front 32 k image (omega arith) in
+    let block_size = u32_at-front k image 8 (omega arith) in
+    let total = u32_at-front k image 12 (omega arith) in
+    let free = u32_at-front k image 16 (omega arith) in
+    let extension = u32_at-front k image 20 (omega arith) in
+    let limit = u32_at-front k image 24 (omega arith) in
+    let key_max = u32_at-front k image 28 (omega arith) in
+    let value_max = u32_at-front k image 32 (omega arith) in
     cc
 
 option_or-cond : {A : Type 0} (b : Bool) (x : A) (rest other : Option A) → option_or (cond b (Some x) rest) other ≡ cond b (Some x) (option_or rest other)

@@ -7,7 +7,7 @@ use Rattle.std.proofs.lemmas.List.Elements.{All-from_recursion}
 use Rattle.gds_block.specs.Fields.{u16_at}
 use Rattle.gds_block.specs.Block.{level_of, used_of}
 use Rattle.gds_block.specs.Record.{StandsIn, bytes_left, size_of, is_well_sized, first_record, records_up_to, records_from, records_of}
-use Rattle.gds_block.proofs.RecordLaws.{Fits-from_well_sized}
+use Rattle.gds_block.proofs.RecordLemmas.{Fits-from_well_sized}
 
 -- a property of the list that an `if` gives
 when : {A : Type 0} (P : List A → Type 0) (b : Bool) (xs : List A) → (b ≡ true → P xs) → P [] → P (if b then xs else [])
@@ -41,11 +41,13 @@ module _ (block : List ℕ) (used offset size : ℕ) (least : 5 ≤ size) (fits 
   length-body = omega (arith, length-drop 4 (take size (drop offset (take used block))), length-take size (drop offset (take used block)))
 
   size_there : u16_at (drop offset (take used block)) 0 ≡ u16_at block offset
+  unfolding u16_at
   size_there =
       let inside = ends_within in
       cc (byte_of block used offset 0 0 (omega arith), byte_of block used offset 0 1 (omega arith), add-zero offset)
 
   count_there : u16_at (drop offset (take used block)) 2 ≡ u16_at block (offset + 2)
+  unfolding u16_at
   count_there =
       let inside = ends_within in
       cc (byte_of block used offset 2 0 (omega arith), byte_of block used offset 2 1 (omega arith))
