@@ -1,6 +1,6 @@
 ghost use Rattle.std.specs.Prelude.{◌≡◌, ◌+◌, ◌-◌, ◌<◌, ◌≤◌, ◌^◌, true, false, ℕ, [], ◌∷◌, ◌++◌, length, map, take, option_map, IfOk, IfErr, OnOk, OnErr, IsErrOf};
 ghost use Rattle.host_model.specs.Failures.{Rose};
-ghost use Rattle.gds_law.specs.Key.{name_part};
+ghost use Rattle.m_key.specs.KeyParts.{name_part};
 ghost use Rattle.gds_law.specs.Kinds.{ends};
 ghost use Rattle.gds_law.specs.BlockReading.{is_last, is_first};
 ghost use Rattle.gds_law.specs.Record.{low_of};
@@ -10,15 +10,14 @@ ghost use Rattle.integ_block.specs.BlockReading.{reading};
 ghost use Rattle.integ_block.specs.Entry.{children_here, faults_here, kinds_here, seen, IsEntry, IsCount, IsKeyPart, LeavesHere};
 ghost use Rattle.integ_block.specs.Child.{seen_child};
 
-use crate::copies::{bound_of, key_of, role_of};
+use crate::copies::{bound_of, role_of};
 use crate::entry::{Entry, Step};
-use crate::key::{key_fault, name_part};
+use crate::key::key_fault;
 use crate::reading::BlockReading;
 use crate::{Child, IntegError};
 use gds_block::RecordView;
 use gds_law::{FaultKind, FaultSink, Role};
-use m_key::{end_in, ends_in_zero, join_key};
-use m_key::Key;
+use m_key::{Key, end_in, ends_in_zero, join_key, key_from, name_part};
 
 /// Where the first record of a block stands.
 pub(crate) const FIRST: u32 = 16;
@@ -184,7 +183,7 @@ impl<'a> Record<'a> {
         Child {
             offset: self.view.offset,
             block,
-            role: Role::Global(key_of(name_part(key))),
+            role: Role::Global(key_from(name_part(key))),
             level: None,
             low: None,
             high: None,
@@ -224,7 +223,7 @@ impl<'a> Record<'a> {
         if self.is_first() {
             bound_of(&self.reading.at.low)
         } else {
-            Some(key_of(self.previous))
+            Some(key_from(self.previous))
         }
     }
 }

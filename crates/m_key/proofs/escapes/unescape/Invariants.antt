@@ -1,6 +1,6 @@
 use Rattle.std.proofs.Common.{◌≡◌, ◌++◌, length, flat_map}
 use Rattle.m_key.specs.Key.{escaped}
-use Rattle.m_key.proofs.reading.unescape.Given as goal
+use Rattle.m_key.proofs.escapes.unescape.Given as goal
 
 -- the bytes so far and what is left are all
 abbrev pub invariant-loop-rest : goal.invariant-loop-rest

@@ -1,6 +1,6 @@
 use Rattle.std.proofs.Common.{◌<◌, length, sym, ◌∙◌, arith, false-eqb}
 use Rattle.m_key.proofs.ReadingLemmas.{not_escaped}
-use Rattle.m_key.proofs.reading.unescape.Goals as goal
+use Rattle.m_key.proofs.escapes.unescape.Goals as goal
 
 pub returns-in_default-clause-none : goal.returns-in_default-clause-none
 returns-in_default-clause-none c t e =
