@@ -9,7 +9,8 @@ use Rattle.m_key.specs.KeyEnd.{shared}
 use Rattle.gds_law.specs.Kinds.{ends, record_kinds}
 use Rattle.gds_law.specs.Visit.{TreeRole, directory, global, Visit, Child, global_root}
 use Rattle.gds_law.specs.BlockReading.{BlockReading, PlacedRecord, is_first, size_of, is_last, full_of, key_end, key_of, rest_of, points, pointer_of}
-use Rattle.gds_law.specs.Key.{key_fault, name_part, subscript_parts}
+use Rattle.m_key.specs.KeyParts.{name_part, subscript_parts}
+use Rattle.gds_law.specs.Key.{key_fault}
 use Rattle.gds_law.specs.declared.kind.FaultKind.{FaultKind}
 use Rattle.gds_law.specs.declared.kind.FaultKind.TheVariants.{StarSize, StarCount, FirstCount, CountTooLarge, KeyTooLong, KeyWithoutEnd, WrongCount, KeyOutOfOrder, BadName, TooManySubscripts, BadNumber, BadString, NullSubscript, DirectorySubscript, WrongGlobal, KeyAboveBound, KeyBelowBound, RestNotPointer, ValueTooLong, PointerNotPositive, PointerTooLarge, PointerToMap}
 

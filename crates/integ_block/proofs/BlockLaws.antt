@@ -6,7 +6,7 @@ use Rattle.std.proofs.lemmas.List.{drop_all, drop-drop, length-map, map-append}
 use Rattle.gds_block.specs.Block.{used_of}
 use Rattle.gds_block.specs.Record as block
 use Rattle.gds_block.specs.Record.{Record, AreRecords, bytes_left, is_well_sized}
-use Rattle.gds_block.proofs.RecordLaws.{Fits-from_well_sized}
+use Rattle.gds_block.proofs.RecordLemmas.{Fits-from_well_sized}
 use Rattle.gds_law.specs.Block.{fault_at, kinds_from, children_from, size_kinds}
 use Rattle.gds_law.specs.BlockReading.{BlockReading, PlacedRecord, size_of, is_last, key_of}
 use Rattle.gds_law.specs.Record.{kinds_of, is_ended, children_of_record}

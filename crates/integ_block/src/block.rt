@@ -11,7 +11,7 @@ use crate::Child;
 use crate::entry::Step;
 use crate::reading::BlockReading;
 use crate::record::{FIRST, Record};
-use gds_block::{BlockView, u16_at};
+use gds_block::{BlockView, least_size, u16_at};
 use gds_law::{FaultKind, FaultSink, SinkTrouble};
 use m_key::Key;
 
@@ -92,10 +92,9 @@ impl BlockReading<'_> {
 fn size_kind(level: u8, left: &[u8]) -> Option<FaultKind>
     ensures { option_to_list result ≡ size_kinds level left.now }
 {
-    let least = if level == 0 { 5 } else { 8 };
     if left.is_empty() {
         None
-    } else if left.len() < 4 || u16_at(left, 0) < least {
+    } else if left.len() < 4 || u16_at(left, 0) < least_size(level) {
         Some(FaultKind::RecordTooSmall)
     } else if left.len() < u16_at(left, 0) as usize {
         Some(FaultKind::RecordTooLarge)

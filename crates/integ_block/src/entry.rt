@@ -9,12 +9,11 @@ ghost use Rattle.integ_block.specs.Child.{child_of};
 
 use crate::Child;
 use crate::compare::is_below;
-use crate::copies::{bound_of, key_of};
-use crate::key::{has_subscripts, name_part};
+use crate::copies::bound_of;
 use crate::record::Record;
 use gds_block::pointer_of;
 use gds_law::{FaultKind, FaultSink, SinkTrouble};
-use m_key::{Key, shared_len};
+use m_key::{Key, has_subscripts, key_from, name_part, shared_len};
 
 /// The kinds that are asked of a record that doesn't end the reading of its block, in their order.
 const ENTRY_KINDS: [FaultKind; 17] = [
@@ -199,7 +198,7 @@ impl Entry<'_> {
     {
         match &self.key {
             Some(key) if self.record.reading.level == 0 => self.record.root(block, key.as_slice()),
-            Some(key) => self.record.below(block, Some(key_of(key.as_slice()))),
+            Some(key) => self.record.below(block, Some(key_from(key.as_slice()))),
             None => self
                 .record
                 .below(block, bound_of(&self.record.reading.at.visit.high)),

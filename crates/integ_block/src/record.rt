@@ -1,5 +1,5 @@
 ghost use Rattle.std.specs.Prelude.{◌≡◌, ◌+◌, ◌-◌, ◌<◌, ◌≤◌, ◌^◌, true, false, [], ◌∷◌, length, map, option_map, IfOk, IfErr};
-ghost use Rattle.gds_law.specs.Key.{name_part};
+ghost use Rattle.m_key.specs.KeyParts.{name_part};
 ghost use Rattle.gds_law.specs.Kinds.{ends};
 ghost use Rattle.gds_law.specs.BlockReading.{is_last, is_first};
 ghost use Rattle.gds_law.specs.Record.{low_of};
@@ -11,13 +11,13 @@ ghost use Rattle.integ_block.specs.Entry.{children_here, faults_here, kinds_here
 ghost use Rattle.integ_block.specs.Child.{child_of};
 
 use crate::Child;
-use crate::copies::{bound_of, key_of, role_of};
+use crate::copies::{bound_of, role_of};
 use crate::entry::{Entry, Step};
-use crate::key::{key_fault, name_part};
+use crate::key::key_fault;
 use crate::reading::BlockReading;
 use gds_block::RecordView;
 use gds_law::{FaultKind, FaultSink, Role, SinkTrouble, Visit};
-use m_key::{Key, end_in, ends_in_zero, join_key};
+use m_key::{Key, end_in, ends_in_zero, join_key, key_from, name_part};
 
 /// Where the first record of a block stands.
 pub(crate) const FIRST: u32 = 16;
@@ -180,7 +180,7 @@ impl<'a> Record<'a> {
             offset: self.view.offset,
             visit: Visit {
                 block,
-                role: Role::Global(key_of(name_part(key))),
+                role: Role::Global(key_from(name_part(key))),
                 level: None,
                 low: None,
                 high: None,
@@ -223,7 +223,7 @@ impl<'a> Record<'a> {
         if self.is_first() {
             bound_of(&self.reading.at.visit.low)
         } else {
-            Some(key_of(self.previous))
+            Some(key_from(self.previous))
         }
     }
 }

@@ -4,10 +4,9 @@ ghost use Rattle.gds_header.specs.Kinds.{IsWithinLimits};
 mod rows;
 
 use super::*;
-use crate::copies::key_of;
 use gds_block::write_head;
 use gds_law::{Fault, Path, Role, SinkTrouble, Visit};
-use m_key::Key;
+use m_key::{Key, key_from};
 use rows::{NONE, ROWS};
 use std::alloc::Global;
 use std::test::Fail;
@@ -90,7 +89,7 @@ enum Place {
 
 /// The key of a node of `^A` with a number of one digit.
 fn node(digit: u8) -> Key {
-    key_of(&[b'A', 0, 0xBF, digit, 0, 0])
+    key_from(&[b'A', 0, 0xBF, digit, 0, 0])
 }
 
 fn at(place: Place) -> At {
@@ -105,7 +104,7 @@ fn at(place: Place) -> At {
             block: 7,
             role: match place {
                 Place::Names => Role::Directory,
-                _ => Role::Global(key_of(b"A")),
+                _ => Role::Global(key_from(b"A")),
             },
             level,
             low,
@@ -152,7 +151,7 @@ fn inner(offset: u32, block: u32, low: u8, high: u8) -> Child {
         offset,
         visit: Visit {
             block,
-            role: Role::Global(key_of(b"A")),
+            role: Role::Global(key_from(b"A")),
             level: Some(0),
             low: Some(node(low)),
             high: Some(node(high)),
@@ -185,7 +184,7 @@ fn appends_children(rt: HostRuntime) -> Result<(), Fail> {
         offset: 27,
         visit: Visit {
             block: 3,
-            role: Role::Global(key_of(b"B")),
+            role: Role::Global(key_from(b"B")),
             level: None,
             low: None,
             high: None,
