@@ -1,4 +1,5 @@
--- Thin files: the directory is a single leaf, and so is each global. Which pairs of files are thin, and the globals that
+-- Thin files: the directory is a single leaf, and so is each global. Which pairs of files are thin, and the globals
+-- that
 -- they stand for.
 use Rattle.std.specs.Prelude.{ℕ, ◌≡◌, ◌≤◌, ◌<◌, ◌+◌, ◌%◌, Bool, ◌&&◌, ◌==◌, nat_eq, nat_lt, not, IsTrue, List, [], ◌∷◌, ◌++◌, length, take, sum_by, flat_map, codes}
 use Rattle.std.specs.List.{starts_with, AllByRecursion, AllZip, IsDistinct}
@@ -78,7 +79,8 @@ pub record IsGlobal (d : List ℕ) (entry : Valued) (vs : List Valued) : Type 0 
 
 -- the blocks of a thin file that are no maps
 abbrev pub blocks_of : List ℕ → List Valued → List ℕ
-blocks_of d directory = 1 ∷ star_child (block_of d 1) ∷ flat_map (λ entry. root_of entry ∷ leaf_of d entry ∷ []) directory
+blocks_of d directory =
+    1 ∷ star_child (block_of d 1) ∷ flat_map (λ entry. root_of entry ∷ leaf_of d entry ∷ []) directory
 
 -- The two files are thin, with this directory and each global's nodes: the header has no fault, the file of images is
 -- closed, and no block has two uses.
