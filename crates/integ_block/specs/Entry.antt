@@ -15,7 +15,7 @@ use Rattle.integ_block.specs.declared.record.Record.{Record}
 use Rattle.integ_block.specs.declared.entry.Entry.{Entry}
 
 abbrev pub seen : Record → law.PlacedRecord
-seen r = record { previous = r.previous.now; record_ = record_of r.view }
+seen r = record { previous = r.previous.now.items; record_ = record_of r.view }
 
 -- the last record of an index block, of the right size
 pub record IsStar (b : law.BlockReading) (s : law.PlacedRecord) (rest : List ℕ) : Type 0 where

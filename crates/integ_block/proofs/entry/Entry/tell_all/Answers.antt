@@ -23,7 +23,7 @@ told_here g c =
     let e = c.args.self in
     let b = reading e.record.reading in
     ap (faults_at b e.record.reading.at.now.path e.record.view.offset)
-    (kinds_of-read b (seen e.record) e.key e.rest.now e.fault c.requires.entry)
+    (kinds_of-read b (seen e.record) e.key e.rest.now e.fault c.requires)
 
 pub returns-in_err-count-clause-told : goal.returns-in_err-count-clause-told
 returns-in_err-count-clause-told g c =
@@ -59,12 +59,12 @@ returns-clause-told g c =
 pub returns-clause-count : goal.returns-clause-count
 returns-clause-count g c =
     let e = c.args.self in
-    c.in_ok-count.ensures.count ∙ ap length (sym (kinds_of-read (reading e.record.reading) (seen e.record) e.key e.rest.now e.fault c.requires.entry))
+    c.in_ok-count.ensures.count ∙ ap length (sym (kinds_of-read (reading e.record.reading) (seen e.record) e.key e.rest.now e.fault c.requires))
 
 pub returns-clause-leaves : goal.returns-clause-leaves
 returns-clause-leaves g c =
     let e = c.args.self in
-    Leaves-read (reading e.record.reading) (seen e.record) e.key e.rest.now e.fault c.requires.entry
+    Leaves-read (reading e.record.reading) (seen e.record) e.key e.rest.now e.fault c.requires
 
 pub returns-clause-children : goal.returns-clause-children
 returns-clause-children g c =
@@ -72,7 +72,7 @@ returns-clause-children g c =
     let b = reading e.record.reading in
     let s = seen e.record in
     let before = map child_of c.args.children.now.items in
-    let here = c.child.ensures ∙ children-read b s e.key e.rest.now e.fault c.requires.entry in
+    let here = c.child.ensures ∙ children-read b s e.key e.rest.now e.fault c.requires in
     Grew-ok _ _ _ _
     (elim c.match-child.branch [
       | in-Some+in_ok-push w ↦

@@ -39,22 +39,20 @@ module _ (g : Over) (c : After-tell_all g) where
   rs = c.next.new.self
 
   abbrev previous : List ℕ
-  previous = c.as_slice.result.now
+  previous = c.loop-view.previous.items
 
   abbrev s : law.PlacedRecord
   s = record { previous = previous; record_ = r }
 
   told-here : Reached (g.F.FaultSink.listed c.args.sink.now) (g.F.FaultSink.listed c.loop-view.sink) (map (fault_at b path) (kinds_from b bytes c.loop-view.end previous (r ∷ rs))) (map (fault_at b path) (kinds_from b bytes 16 [] (records_of bytes))) c.loop-view.count
   told-here =
-      subst (λ (p : List ℕ). Reached (g.F.FaultSink.listed c.args.sink.now) (g.F.FaultSink.listed c.loop-view.sink) (map (fault_at b path) (kinds_from b bytes c.loop-view.end p (r ∷ rs))) (map (fault_at b path) (kinds_from b bytes 16 [] (records_of bytes))) c.loop-view.count) (sym c.as_slice.ensures.value)
-      (subst (λ (xs : List Record). Reached (g.F.FaultSink.listed c.args.sink.now) (g.F.FaultSink.listed c.loop-view.sink) (map (fault_at b path) (kinds_from b bytes c.loop-view.end c.loop-view.previous.items xs)) (map (fault_at b path) (kinds_from b bytes 16 [] (records_of bytes))) c.loop-view.count) c.in-Some.ensures.steps
-      c.loop-view.invariant.told)
+      subst (λ (xs : List Record). Reached (g.F.FaultSink.listed c.args.sink.now) (g.F.FaultSink.listed c.loop-view.sink) (map (fault_at b path) (kinds_from b bytes c.loop-view.end c.loop-view.previous.items xs)) (map (fault_at b path) (kinds_from b bytes 16 [] (records_of bytes))) c.loop-view.count) c.in-Some.ensures.steps
+      c.loop-view.invariant.told
 
   children-here : Reached (map child_of c.args.children.now.items) (map child_of c.loop-view.children.items) (children_from b previous (r ∷ rs)) (children_from b [] (records_of bytes)) c.loop-view.invariant.children.0
   children-here =
-      subst (λ (p : List ℕ). Reached (map child_of c.args.children.now.items) (map child_of c.loop-view.children.items) (children_from b p (r ∷ rs)) (children_from b [] (records_of bytes)) c.loop-view.invariant.children.0) (sym c.as_slice.ensures.value)
-      (subst (λ (xs : List Record). Reached (map child_of c.args.children.now.items) (map child_of c.loop-view.children.items) (children_from b c.loop-view.previous.items xs) (children_from b [] (records_of bytes)) c.loop-view.invariant.children.0) c.in-Some.ensures.steps
-      c.loop-view.invariant.children.1)
+      subst (λ (xs : List Record). Reached (map child_of c.args.children.now.items) (map child_of c.loop-view.children.items) (children_from b c.loop-view.previous.items xs) (children_from b [] (records_of bytes)) c.loop-view.invariant.children.0) c.in-Some.ensures.steps
+      c.loop-view.invariant.children.1
 
   are : AreRecords b.level c.loop-view.end (bytes_left bytes c.loop-view.end) (r ∷ rs)
   are = subst (λ (xs : List Record). AreRecords b.level c.loop-view.end (bytes_left bytes c.loop-view.end) xs) c.in-Some.ensures.steps c.loop-view.invariant.records

@@ -1,5 +1,5 @@
-use Rattle.std.proofs.Common.{◌≡◌, ◌∙◌, None, ap, arith}
-use Rattle.m_key.specs.KeyEnd.{end_in}
+use Rattle.std.proofs.Common.{◌≡◌, ◌∙◌, false, take, None, ap, arith}
+use Rattle.m_key.specs.KeyEnd.{end_in, zero_after}
 use Rattle.gds_law.specs.BlockReading.{key_end}
 use Rattle.integ_block.specs.Entry.{seen}
 use Rattle.integ_block.specs.BlockReading.{reading}
@@ -11,7 +11,7 @@ use Rattle.integ_block.proofs.record.Record.key_part.Goals.{In_default, in_defau
 pub returns-in-Some-clause-ok : goal.returns-in-Some-clause-ok
 returns-in-Some-clause-ok c =
     let s = seen c.args.self.now in
-    let same = ap (λ z. end_in z s.record_.body) c.ends_in_zero.ensures in
+    let same = ap (λ z. end_in z s.record_.body) (c.ends_in_zero.ensures ∙ ap (λ k. zero_after false (take s.record_.count k)) c.as_slice.ensures.value) in
     IsKeyPart-found (reading c.args.self.now.reading) s c.requires.count c.requires.fronts c.in-Some.len (c.in-Some.ensures.value ∙ same) c.in-Some.ensures.within (omega arith)
 
 -- No key ends in the bytes that a key may have.
@@ -19,7 +19,7 @@ none : (c : In_default) → key_end (reading c.args.self.now.reading) (seen c.ar
 none c =
     let s = seen c.args.self.now in
     let b = reading c.args.self.now.reading in
-    let same = ap (λ z. end_in z s.record_.body) c.ends_in_zero.ensures in
+    let same = ap (λ z. end_in z s.record_.body) (c.ends_in_zero.ensures ∙ ap (λ k. zero_after false (take s.record_.count k)) c.as_slice.ensures.value) in
     elim c.in_default.branch [
       | in_default-via-in-Some+else-count-len w ↦ key_end-late b s c.requires.count c.requires.fronts w.in-Some.len (w.in-Some.ensures.value ∙ same) (omega arith)
       | in_default-via-in_default w ↦ key_end-none b s c.requires.count c.requires.fronts (w.in_default.ensures.value ∙ same)
