@@ -8,7 +8,7 @@ use Rattle.gds_pack.specs.Packed.{packed_size}
 use Rattle.gds_pack.specs.Entry.{item, items}
 use Rattle.gds_pack.specs.declared.entry.Entry.{Entry}
 use Rattle.gds_pack.specs.Cut.{runs_from, runs, AreFullRuns, CanBeCut}
-use Rattle.gds_pack.proofs.SizeLaws.{packed_size-front, packed_size-back}
+use Rattle.gds_pack.proofs.SizeLemmas.{packed_size-front, packed_size-back}
 
 -- The runs joined are the list.
 pub joined-runs_from : (places : List ℕ) (from : ℕ) (items : List Item) → flat_map (λ run. run) (runs_from from places items) ≡ items

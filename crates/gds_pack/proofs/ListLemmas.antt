@@ -5,7 +5,7 @@ use Rattle.std.proofs.lemmas.List.{at_drop_more, take_more, map-append, drop_all
 use Rattle.gds_pack.specs.Packed.{record_size, record_bytes, records_size, records_bytes, key_behind}
 use Rattle.gds_pack.specs.Entry.{item, items}
 use Rattle.gds_pack.specs.declared.entry.Entry.{Entry}
-use Rattle.gds_pack.proofs.SizeLaws.{records_size-append, key_behind-append}
+use Rattle.gds_pack.proofs.SizeLemmas.{records_size-append, key_behind-append}
 
 module _ (list : List Entry) (i : ℕ) (e : Entry) (within : i < length list) (read : e ≡ get_or list i e) where
   pub records_size-drop : (previous : List ℕ) → records_size previous (items (drop i list)) ≡ record_size previous (item e) + records_size e.key.items (items (drop (i + 1) list))

@@ -1,21 +1,21 @@
 -- What a block that was written says.
-use Rattle.std.proofs.Common.{ℕ, zero, suc, ◌≡◌, ◌+◌, ◌-◌, ◌≤◌, ◌<◌, ◌^◌, Bool, true, false, cond, List, [], ◌∷◌, ◌++◌, length, take, drop, Some, None, ◌⊎◌, inl, inr, refl, sym, ◌∙◌, ap, subst, arith, append_assoc, length-append, length-drop}
-use Rattle.std.specs.Prelude.{◌==◌, nat_eq, nat_le, replicate, option_map, option_and_then}
-use Rattle.std.proofs.lemmas.Bool.{and_from, and_right, lt-ltb, le-leb, eq-eqb, ne_eqb, or_left, or_right, cond-true, cond-false}
+use Rattle.std.proofs.Common.{ℕ, zero, suc, ◌≡◌, ◌+◌, ◌-◌, ◌≤◌, ◌<◌, ◌^◌, true, cond, List, [], ◌∷◌, ◌++◌, length, take, drop, Some, None, ◌⊎◌, inl, inr, refl, sym, ◌∙◌, ap, subst, arith, append_assoc, length-append, length-drop}
+use Rattle.std.specs.Prelude.{◌==◌, ◌&&◌, nat_eq, nat_le, replicate, option_map, option_and_then}
+use Rattle.std.proofs.lemmas.Bool.{and_from, lt-ltb, le-leb, eq-eqb, ne_eqb, or_left, or_right, cond-true, cond-false}
 use Rattle.std.proofs.lemmas.List.{take_at, drop_at, drop_all, take-append-drop, drop-take, length-replicate}
 use Rattle.std.proofs.lemmas.Nat.{from_le_bytes-to_le_bytes_2, from_le_bytes-to_le_bytes_4}
 use Rattle.gds_block.specs.Block.{level_of, used_of, head_bytes, IsBlock}
 use Rattle.gds_block.specs.Fields.{u16_at, u32_at, u16_bytes, u32_bytes, u64_bytes}
 use Rattle.gds_block.proofs.HeadLemmas.{length-head_bytes}
-use Rattle.gds_block.specs.Record.{Record, bytes_left, size_of, least_size, is_well_sized, first_record, records_from, records_of, AreRecords}
+use Rattle.gds_block.specs.Record.{bytes_left, size_of, least_size, is_well_sized, first_record, records_from, records_of, AreRecords}
 use Rattle.gds_block.proofs.RecordLemmas.{records_from-unique}
 use Rattle.gds_block.specs.Item.{Item}
 use Rattle.m_key.specs.KeyEnd.{IsKey, shared}
 use Rattle.gds_pack.specs.Packed.{record_size, record_bytes, records_size, records_bytes, packed_size, block_bytes, packed_record, packed_records}
 use Rattle.gds_pack.specs.Packable.{IsNext, AreLeaves, AreIndex, ArePackable}
-use Rattle.gds_pack.specs.Unpacked.{is_star, is_count, item_of, read_record, read_records, end_of, entries_of}
+use Rattle.gds_pack.specs.Unpacked.{is_count, item_of, leaf_item, index_item, star_item, leaf_items, index_items, end_of, entries_of}
 use Rattle.m_key.proofs.KeyEndLemmas.{shared-nil, take-shared, shared-below, length-key, key_len-append}
-use Rattle.gds_pack.proofs.SizeLaws.{length-record_bytes, length-records_bytes}
+use Rattle.gds_pack.proofs.SizeLemmas.{length-record_bytes, length-records_bytes}
 
 -- ---- one record
 
@@ -46,20 +46,19 @@ module _ (previous : List ℕ) (i : Item) (tail : List ℕ) (fits : record_size 
 
 -- ---- a list of them
 
--- The records of these items are well-sized, and each is read as its item.
-pub record IsRead (level used offset : ℕ) (previous : List ℕ) (i : Item) : Type 0 where
+-- The records of these items are well-sized.
+pub record IsSized (level : ℕ) (previous : List ℕ) (i : Item) : Type 0 where
   pub least : least_size level ≤ record_size previous i
   pub fits : record_size previous i < 2 ^ 16
   pub small : shared previous i.key < 2 ^ 16
-  pub said : read_record (is_star level used (packed_record offset previous i)) previous (packed_record offset previous i) ≡ Some i
 
-abbrev pub AreRead : ℕ → ℕ → ℕ → List ℕ → List Item → Type 0
-AreRead level used offset previous [] = Unit {0}
-AreRead level used offset previous (i ∷ is) = IsRead level used offset previous i × AreRead level used (offset + record_size previous i) i.key is
+abbrev pub AreSized : ℕ → List ℕ → List Item → Type 0
+AreSized level previous [] = Unit {0}
+AreSized level previous (i ∷ is) = IsSized level previous i × AreSized level i.key is
 
-pub AreRecords-packed : (level used offset : ℕ) (previous : List ℕ) (is : List Item) → AreRead level used offset previous is → AreRecords level offset (records_bytes previous is) (packed_records offset previous is)
-AreRecords-packed level used offset previous [] h = λ w. absurd (cc)
-AreRecords-packed level used offset previous (i ∷ is) (h, more) =
+pub AreRecords-packed : (level offset : ℕ) (previous : List ℕ) (is : List Item) → AreSized level previous is → AreRecords level offset (records_bytes previous is) (packed_records offset previous is)
+AreRecords-packed level offset previous [] h = λ w. absurd (cc)
+AreRecords-packed level offset previous (i ∷ is) (h, more) =
     let tail = records_bytes i.key is in
     let left = record_bytes previous i ++ tail in
     let size = size-record_bytes previous i tail h.fits h.small in
@@ -71,7 +70,7 @@ AreRecords-packed level used offset previous (i ∷ is) (h, more) =
       sym (first-record_bytes previous i tail h.fits h.small offset),
       subst (λ (n : ℕ). AreRecords level (offset + n) (drop n left) rest) (sym size)
           (subst (λ (xs : List ℕ). AreRecords level (offset + record_size previous i) xs rest) (sym (rest-record_bytes previous i tail h.fits h.small))
-          (AreRecords-packed level used (offset + record_size previous i) i.key is more)),
+          (AreRecords-packed level (offset + record_size previous i) i.key is more)),
     )
 
 length-body : (offset : ℕ) (previous : List ℕ) (i : Item) → length (packed_record offset previous i).body + 4 ≡ record_size previous i
@@ -84,12 +83,6 @@ end_of-packed offset previous (i ∷ is) =
     ap (λ n. end_of n (packed_records (offset + record_size previous i) i.key is)) place
     ∙ end_of-packed (offset + record_size previous i) i.key is
     ∙ omega arith
-
-pub read_records-packed : (level used offset : ℕ) (previous : List ℕ) (is : List Item) → AreRead level used offset previous is → read_records level used previous (packed_records offset previous is) ≡ Some is
-read_records-packed level used offset previous [] h = refl
-read_records-packed level used offset previous (i ∷ is) (h, more) =
-    ap (option_and_then (λ j. option_map (λ js. j ∷ js) (read_records level used j.key (packed_records (offset + record_size previous i) i.key is)))) h.said
-    ∙ ap (option_map (λ js. i ∷ js)) (read_records-packed level used (offset + record_size previous i) i.key is more)
 
 -- ---- the items that a block may have
 
@@ -119,8 +112,8 @@ item_of-key i key =
     ∙ cond-true (nat_le n 255) _ _ (le-leb n 255 key.short)
     ∙ ap Some (λ k. record { key = take_at i.key i.rest n refl k; rest = drop_at i.key i.rest n refl k })
 
-said_keyed : (offset : ℕ) (previous : List ℕ) (i : Item) → IsBefore previous → IsNext previous i → read_record false previous (packed_record offset previous i) ≡ Some i
-said_keyed offset previous i before next =
+leaf_item-packed : (offset : ℕ) (previous : List ℕ) (i : Item) → IsBefore previous → IsNext previous i → leaf_item previous (packed_record offset previous i) ≡ Some i
+leaf_item-packed offset previous i before next =
     let s = shared previous i.key in
     let full : take s previous ++ (drop s i.key ++ i.rest) ≡ i.key ++ i.rest =
     ap (λ xs. xs ++ (drop s i.key ++ i.rest)) (take-shared previous i.key)
@@ -128,63 +121,76 @@ said_keyed offset previous i before next =
     ∙ ap (λ xs. xs ++ i.rest) (take-append-drop s i.key) in
     cond-true (is_count previous s) _ _ (neighbours previous i before next).lawful ∙ ap item_of full ∙ item_of-key i next.is_key
 
-said_star : (star : Bool) (previous : List ℕ) (r : Record) (i : Item) → star ≡ true → r.count ≡ 0 → r.body ≡ i.rest → [] ≡ i.key → read_record star previous r ≡ Some i
-said_star star previous r i e count body key =
-    ap (λ b. read_record b previous r) e
-    ∙ cond-true (r.count == 0) _ _ (eq-eqb r.count 0 count)
-    ∙ ap Some (λ k. record { key = key k; rest = body k })
+index_item-packed : (offset : ℕ) (previous : List ℕ) (i : Item) → IsBefore previous → IsNext previous i → length i.rest ≡ 4 → index_item previous (packed_record offset previous i) ≡ Some i
+index_item-packed offset previous i before next four =
+    ap (option_and_then (λ j. cond (nat_eq (length j.rest) 4) (Some j) None)) (leaf_item-packed offset previous i before next)
+    ∙ cond-true (nat_eq (length i.rest) 4) _ _ (eq-eqb _ 4 four)
+
+star_item-packed : (offset : ℕ) (previous : List ℕ) (i : Item) → i.key ≡ [] → length i.rest ≡ 4 → star_item (packed_record offset previous i) ≡ Some i
+star_item-packed offset previous i nokey four =
+    let r = packed_record offset previous i in
+    let none : shared previous i.key ≡ 0 = ap (shared previous) nokey ∙ shared-nil previous in
+    let empty : length i.key ≡ 0 = ap length nokey in
+    let body : r.body ≡ i.rest = ap (λ xs. xs ++ i.rest) (drop_all (shared previous i.key) i.key (omega arith)) in
+    cond-true ((length r.body == 4) && (r.count == 0)) _ _ (and_from _ _ (eq-eqb (length r.body) 4 (ap length body ∙ four)) (eq-eqb r.count 0 none))
+    ∙ ap Some (λ k. record { key = sym nokey k; rest = body k })
+
+leaf_items-packed : (offset : ℕ) (previous : List ℕ) (is : List Item) → IsBefore previous → AreLeaves previous is → leaf_items previous (packed_records offset previous is) ≡ Some is
+leaf_items-packed offset previous [] before h = refl
+leaf_items-packed offset previous (i ∷ is) before (next, more) =
+    let place = offset + record_size previous i in
+    ap (option_and_then (λ j. option_map (λ js. j ∷ js) (leaf_items j.key (packed_records place i.key is)))) (leaf_item-packed offset previous i before next)
+    ∙ ap (option_map (λ js. i ∷ js)) (leaf_items-packed place i.key is (inr next.is_key) more)
+
+index_items-packed : (offset : ℕ) (previous : List ℕ) (is : List Item) → IsBefore previous → AreIndex previous is → index_items previous (packed_records offset previous is) ≡ Some is
+index_items-packed offset previous [] before h = absurd h
+index_items-packed offset previous (i ∷ []) before (nokey, four) = ap (option_map (λ j. j ∷ [])) (star_item-packed offset previous i nokey four)
+index_items-packed offset previous (i ∷ j ∷ is) before (next, four, more) =
+    let place = offset + record_size previous i in
+    ap (option_and_then (λ k. option_map (λ js. k ∷ js) (index_items k.key (packed_records place i.key (j ∷ is))))) (index_item-packed offset previous i before next four)
+    ∙ ap (option_map (λ js. i ∷ js)) (index_items-packed place i.key (j ∷ is) (inr next.is_key) more)
 
 eight : (level : ℕ) → least_size (suc level) ≡ 8
 eight level = cond-false (nat_eq (suc level) 0) 5 8 (ne_eqb (suc level) 0 (λ e. omega (arith, e)))
 
-AreRead-leaves : (used offset : ℕ) (previous : List ℕ) (is : List Item) → IsBefore previous → AreLeaves previous is → records_size previous is < 2 ^ 16 → AreRead 0 used offset previous is
-AreRead-leaves used offset previous [] before h room = tt
-AreRead-leaves used offset previous (i ∷ is) before (next, more) room =
+AreSized-leaves : (previous : List ℕ) (is : List Item) → IsBefore previous → AreLeaves previous is → records_size previous is < 2 ^ 16 → AreSized 0 previous is
+AreSized-leaves previous [] before h room = tt
+AreSized-leaves previous (i ∷ is) before (next, more) room =
     let near = neighbours previous i before next in (
       record {
         least = omega (arith, near.below);
         fits = omega arith;
         small = omega (arith, near.below, next.is_key.short);
-        said = said_keyed offset previous i before next;
       },
-      AreRead-leaves used (offset + record_size previous i) i.key is (inr next.is_key) more (omega arith),
+      AreSized-leaves i.key is (inr next.is_key) more (omega arith),
     )
 
-AreRead-index : (level used offset : ℕ) (previous : List ℕ) (is : List Item) → IsBefore previous → AreIndex previous is → used ≡ offset + records_size previous is → records_size previous is < 2 ^ 16 → AreRead (suc level) used offset previous is
-AreRead-index level used offset previous [] before h ends room = absurd h
-AreRead-index level used offset previous (i ∷ []) before (nokey, four) ends room =
-    let r = packed_record offset previous i in
+AreSized-index : (level : ℕ) (previous : List ℕ) (is : List Item) → IsBefore previous → AreIndex previous is → records_size previous is < 2 ^ 16 → AreSized (suc level) previous is
+AreSized-index level previous [] before h room = absurd h
+AreSized-index level previous (i ∷ []) before (nokey, four) room =
     let none : shared previous i.key ≡ 0 = ap (shared previous) nokey ∙ shared-nil previous in
-    let empty : length i.key ≡ 0 = ap length nokey in
-    let long = length-body offset previous i in
-    let body : r.body ≡ i.rest = ap (λ xs. xs ++ i.rest) (drop_all (shared previous i.key) i.key (omega arith)) in
-    let star : is_star (suc level) used r ≡ true =
-    and_from _ _ (and_from _ _ (lt-ltb 0 (suc level) (omega arith)) (eq-eqb (length r.body) 4 (omega arith))) (eq-eqb (r.offset + 4 + length r.body) used (omega arith)) in (
-      record {
-        least = omega (arith, eight level);
-        fits = omega arith;
-        small = omega arith;
-        said = said_star (is_star (suc level) used r) previous r i star none body (sym nokey);
-      },
+    let empty : length i.key ≡ 0 = ap length nokey in (
+      record { least = omega (arith, eight level); fits = omega arith; small = omega arith },
       tt,
     )
-AreRead-index level used offset previous (i ∷ j ∷ is) before (next, four, more) ends room =
-    let r = packed_record offset previous i in
-    let near = neighbours previous i before next in
-    let long = length-body offset previous i in
-    let plain : is_star (suc level) used r ≡ false = and_right _ _ (ne_eqb (r.offset + 4 + length r.body) used (λ e. omega (arith, e))) in (
+AreSized-index level previous (i ∷ j ∷ is) before (next, four, more) room =
+    let near = neighbours previous i before next in (
       record {
         least = omega (arith, eight level);
         fits = omega arith;
         small = omega (arith, near.below, next.is_key.short);
-        said = ap (λ b. read_record b previous r) plain ∙ said_keyed offset previous i before next;
       },
-      AreRead-index level used (offset + record_size previous i) i.key (j ∷ is) (inr next.is_key) more (omega arith) (omega arith),
+      AreSized-index level i.key (j ∷ is) (inr next.is_key) more (omega arith),
     )
 
-AreRead-packable : (level : ℕ) (is : List Item) → ArePackable level is → packed_size is < 2 ^ 16 → AreRead level (packed_size is) 16 [] is
-AreRead-packable zero is h room = AreRead-leaves (packed_size is) 16 [] is (inl refl) h (omega arith)
-AreRead-packable (suc level) is h room = AreRead-index level (packed_size is) 16 [] is (inl refl) h refl (omega arith)
+AreSized-packable : (level : ℕ) (is : List Item) → ArePackable level is → packed_size is < 2 ^ 16 → AreSized level [] is
+AreSized-packable zero is h room = AreSized-leaves [] is (inl refl) h (omega arith)
+AreSized-packable (suc level) is h room = AreSized-index level [] is (inl refl) h (omega arith)
+
+-- What the packed records say, by the level.
+items-packed : (level : ℕ) (is : List Item) → ArePackable level is → cond (nat_eq level 0) (leaf_items [] (packed_records 16 [] is)) (index_items [] (packed_records 16 [] is)) ≡ Some is
+items-packed zero is h = leaf_items-packed 16 [] is (inl refl) h
+items-packed (suc level) is h = cond-false (nat_eq (suc level) 0) _ _ (ne_eqb (suc level) 0 (λ e. omega (arith, e))) ∙ index_items-packed 16 [] is (inl refl) h
 
 -- ---- a block
 
@@ -229,13 +235,13 @@ module _ (is : List Item) (level tn room : ℕ) (fits : packed_size is ≤ room)
       ∙ take_at (records_bytes [] is) (replicate (room - packed_size is) 0) size (length-records_bytes [] is)
 
   module _ (packable : ArePackable level is) where
-    are_read : AreRead level (packed_size is) 16 [] is
-    are_read = AreRead-packable level is packable (omega arith)
+    are_sized : AreSized level [] is
+    are_sized = AreSized-packable level is packable (omega arith)
 
     pub records_of-block_bytes : records_of (block_bytes is level tn room) ≡ packed_records 16 [] is
     records_of-block_bytes =
         (λ k. records_from (level_of-block_bytes k) 16 (bytes_left-block_bytes k))
-        ∙ sym (records_from-unique level 16 (records_bytes [] is) (packed_records 16 [] is) (AreRecords-packed level (packed_size is) 16 [] is are_read))
+        ∙ sym (records_from-unique level 16 (records_bytes [] is) (packed_records 16 [] is) (AreRecords-packed level 16 [] is are_sized))
 
     pub entries_of-block_bytes : entries_of (block_bytes is level tn room) ≡ Some is
     unfolding entries_of
@@ -243,5 +249,5 @@ module _ (is : List Item) (level tn room : ℕ) (fits : packed_size is ≤ room)
         let block = block_bytes is level tn room in
         let recs = records_of-block_bytes in
         cond-true (nat_eq (end_of 16 (records_of block)) (used_of block)) _ _ (eq-eqb _ _ (ap (end_of 16) recs ∙ end_of-packed 16 [] is ∙ sym used_of-block_bytes))
-        ∙ (λ k. read_records (level_of-block_bytes k) (used_of-block_bytes k) [] (recs k))
-        ∙ read_records-packed level (packed_size is) 16 [] is are_read
+        ∙ (λ k. cond (nat_eq (level_of-block_bytes k) 0) (leaf_items [] (recs k)) (index_items [] (recs k)))
+        ∙ items-packed level is packable

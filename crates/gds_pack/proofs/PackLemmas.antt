@@ -9,7 +9,7 @@ use Rattle.gds_block.proofs.HeadLemmas.{length-head_bytes}
 use Rattle.gds_block.proofs.FieldLemmas.{length-u16_bytes, length-with_bytes, put_behind}
 use Rattle.m_key.specs.KeyEnd.{shared}
 use Rattle.gds_pack.specs.Packed.{record_size, record_bytes, packed_size, records_bytes, block_bytes}
-use Rattle.gds_pack.proofs.SizeLaws.{length-records_bytes}
+use Rattle.gds_pack.proofs.SizeLemmas.{length-records_bytes}
 
 module _ (is : List Item) (level tn end room : ℕ) (before out written : List ℕ)
     (ends : end ≡ packed_size is) (records : take end out ≡ take 16 before ++ records_bytes [] is)

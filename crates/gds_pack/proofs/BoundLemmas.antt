@@ -15,7 +15,7 @@ use Rattle.gds_pack.specs.Packed.{records_size, packed_size, key_behind, first_k
 use Rattle.gds_pack.specs.Packable.{IsNext, AreLeaves, AreIndex, ArePackable}
 use Rattle.gds_pack.specs.Cut.{CanBeCut}
 use Rattle.m_key.proofs.KeyEndLemmas.{shared-le, shared-nil}
-use Rattle.gds_pack.proofs.SizeLaws.{records_size-append, records_size-behind}
+use Rattle.gds_pack.proofs.SizeLemmas.{records_size-append, records_size-behind}
 
 -- Another key before the records changes what the first of them leaves out.
 pub records_size-moved : (p q : List ℕ) (is : List Item) → records_size q is + shared q (first_key is) ≡ records_size p is + shared p (first_key is)
