@@ -4,7 +4,9 @@ ghost use Rattle.gds_law.specs.Number.{is_number_bytes};
 ghost use Rattle.gds_law.specs.Key.{is_text, subscript_fault, first_fault, key_fault};
 
 use gds_law::FaultKind;
-use m_key::{SUBSCRIPT_LIMIT, is_escaped_text, is_name, name_part, subscript_count, subscript_parts};
+use m_key::{
+    SUBSCRIPT_LIMIT, is_escaped_text, is_name, name_part, subscript_count, subscript_parts,
+};
 use m_number::decode;
 
 /// What is wrong with a key's name or its subscripts, the first of it.
