@@ -13,7 +13,7 @@ use Rattle.m_key.specs.Node.{Node, NodeSubscript, IsSubscript, IsNode, is_word}
 use Rattle.m_key.specs.Key.{subscript_bytes, ended, key_bytes}
 use Rattle.m_key.proofs.ZeroLemmas.{NoZero, cmp-prefix}
 use Rattle.m_key.proofs.KeyLemmas.{Right, key-is, ended-more, NoZero-subscript, NoZero-name, begun}
-use Rattle.m_key.proofs.Numbers.{numbers}
+use Rattle.m_key.proofs.NumberLemmas.{numbers}
 use Rattle.gds_block.specs.Record.{Record}
 use Rattle.gds_cli.specs.LeafSeen.{end_after, IsSplit}
 
