@@ -21,7 +21,8 @@ pair_of a b x y e =
     let pair : ◌≡◌ {A = Found} (a, b) (x, y) = ap (from_some (a, b)) e in
     (ap f pair, ap g pair)
 
-pub fronted : (front : List ℕ) (found : Option Found) (bytes rest : List ℕ) → with_front front found ≡ Some (bytes, rest) → IsFronted front found bytes rest
+pub fronted : (front : List ℕ) (found : Option Found) (bytes rest : List ℕ)
+    → with_front front found ≡ Some (bytes, rest) → IsFronted front found bytes rest
 fronted front None bytes rest e = absurd (cc)
 fronted front (Some x) bytes rest e =
     let p = pair_of (front ++ x.0) x.1 bytes rest e in
@@ -31,7 +32,8 @@ pub with_front-nil : (found : Option Found) → with_front [] found ≡ found
 with_front-nil None = refl
 with_front-nil (Some x) = refl
 
-pub with_front-with_front : (a b : List ℕ) (found : Option Found) → with_front a (with_front b found) ≡ with_front (a ++ b) found
+pub with_front-with_front : (a b : List ℕ) (found : Option Found)
+    → with_front a (with_front b found) ≡ with_front (a ++ b) found
 with_front-with_front a b None = refl
 with_front-with_front a b (Some x) = ap (λ (t : List ℕ). Some (t, x.1)) (sym (append_assoc a b x.0))
 
