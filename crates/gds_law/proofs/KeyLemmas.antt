@@ -10,13 +10,13 @@ use Rattle.std.proofs.lemmas.List.Elements.{recursion_from_All, All-from_recursi
 use Rattle.std.proofs.lemmas.List.Splits.{slice_split-cons_no, join_with_byte-slice_split}
 use Rattle.std.proofs.lemmas.List.Sums.{take_while-cons}
 use Rattle.m_number.specs.Bytes.{bytes_of}
-use Rattle.m_number.proofs.Comparing.{byte_count, first_bound}
+use Rattle.m_number.proofs.BytesLemmas.{byte_count, first_bound}
 use Rattle.m_key.specs.Node.{Node, NodeSubscript, number, string, is_word, IsName, IsSubscript, IsNode}
 use Rattle.m_key.specs.Key.{escaped, subscript_bytes, ended, key_bytes}
 use Rattle.m_key.proofs.ZeroLemmas.{NoZero}
 use Rattle.m_key.proofs.KeyLemmas as keys
 use Rattle.m_key.proofs.KeyLemmas.{Right}
-use Rattle.m_key.proofs.Numbers.{numbers}
+use Rattle.m_key.proofs.NumberLemmas.{numbers}
 use Rattle.m_key.specs.KeyEnd.{key_len}
 use Rattle.gds_law.specs.Number.{is_number_text, is_number_bytes}
 use Rattle.m_key.specs.Node.{is_name}

@@ -14,8 +14,8 @@ use Rattle.m_number.specs.Numeral.{Numeral, IsNumeral}
 use Rattle.m_number.specs.Text.{codes_of, nonzero_text, size_text, text_of}
 use Rattle.m_number.specs.Bytes.{first_byte, pairs_of, complement, size_bytes, bytes_of}
 use Rattle.m_number.specs.Packed.{pair_of, unfilled}
-use Rattle.m_number.proofs.Comparing.{Decimal, decimal_of, bytes_by, first_within, same_numeral}
-use Rattle.m_number.proofs.Packing.{unpacked_again}
+use Rattle.m_number.proofs.BytesLemmas.{Decimal, decimal_of, bytes_by, first_within, same_numeral}
+use Rattle.m_number.proofs.PackedLemmas.{unpacked_again}
 use Rattle.gds_law.specs.Number.{are_digits, exponents, numbers_with, without_zeros, significant, is_number_text, packed_digits, is_number_bytes}
 
 -- ---- which numbers have some digits

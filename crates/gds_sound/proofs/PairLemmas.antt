@@ -17,7 +17,7 @@ use Rattle.m_key.specs.Key.{key_bytes, ended, subscript_bytes}
 use Rattle.m_key.specs.Globals.{Globals, Place, place_cmp}
 use Rattle.m_key.proofs.ZeroLemmas.{NoZero, cmp-ended, cmp-same}
 use Rattle.m_key.proofs.KeyLemmas as keys
-use Rattle.m_key.proofs.Numbers.{numbers}
+use Rattle.m_key.proofs.NumberLemmas.{numbers}
 use Rattle.m_key.proofs.PlaceLemmas.{place_total, place_same}
 use Rattle.gds_block.specs.Item.{Item}
 use Rattle.m_key.specs.KeyEnd.{key_len}
