@@ -134,7 +134,8 @@ impl Entry<'_> {
 
     /// The same of such a kind and a record that isn't the last one of an index block.
     fn keyed_holds(&self, key: &[u8], kind: FaultKind) -> bool
-        requires { IsKeyed (reading self.now.record.reading) (seen self.now.record) key.now self.now.rest.now self.now.fault }
+        requires { IsKeyed (reading self.now.record.reading) (seen self.now.record) key.now self.now.rest.now
+            self.now.fault }
         ensures { result ≡ keyed_holds (reading self.now.record.reading) (seen self.now.record) kind }
     {
         let reading = self.record.reading;

@@ -1,4 +1,5 @@
-ghost use Rattle.std.specs.Prelude.{◌≡◌, ◌+◌, ◌-◌, ◌<◌, ◌≤◌, ◌^◌, true, false, [], ◌∷◌, length, map, option_map, IfOk, IfErr};
+ghost use Rattle.std.specs.Prelude.{◌≡◌, ◌+◌, ◌-◌, ◌<◌, ◌≤◌, ◌^◌, true, false, [], ◌∷◌, length, map, option_map};
+ghost use Rattle.std.specs.Prelude.{IfOk, IfErr};
 ghost use Rattle.m_key.specs.KeyParts.{name_part};
 ghost use Rattle.gds_law.specs.Kinds.{ends};
 ghost use Rattle.gds_law.specs.BlockReading.{is_last, is_first};
@@ -7,7 +8,8 @@ ghost use Rattle.gds_law.specs.Sink.{Grew, WasTold};
 ghost use Rattle.gds_law.specs.Visit.{global_root};
 ghost use Rattle.m_key.specs.KeyEnd.{HasOpenFronts};
 ghost use Rattle.integ_block.specs.BlockReading.{reading};
-ghost use Rattle.integ_block.specs.Entry.{children_here, faults_here, kinds_here, seen, IsEntry, IsCount, IsKeyPart, LeavesHere};
+ghost use Rattle.integ_block.specs.Entry.{children_here, faults_here, kinds_here, seen};
+ghost use Rattle.integ_block.specs.Entry.{IsEntry, IsCount, IsKeyPart, LeavesHere};
 ghost use Rattle.integ_block.specs.Child.{child_of};
 
 use crate::Child;
@@ -39,7 +41,8 @@ impl<'a> Record<'a> {
     ) -> Result<Step, SinkTrouble>
         requires small { self.view.offset + 4 + length self.view.body.now < 2 ^ 32 }
         requires fronts { HasOpenFronts self.previous.now.items }
-        ensures told { WasTold F.listed F.failures sink.old sink.new (faults_here self.entry) result SinkTrouble.Failed }
+        ensures told { WasTold F.listed F.failures sink.old sink.new (faults_here self.entry)
+            result SinkTrouble.Failed }
         ensures count { IfOk result (λ step. step.count ≡ length (kinds_here self.entry)) }
         ensures few { IfOk result (λ step. step.count ≤ 17) }
         ensures children { Grew (map child_of children.old.items) (map child_of children.new.items)

@@ -24,5 +24,6 @@ returns-then-self-as_slice-clause-err c =
     let later = sym c.is_first.ensures ∙ c.if-is_first.false in
     let first : keyed_holds b s FirstCount ≡ false = ap (λ t. t && not (nat_eq s.record_.count 0)) later in
     let h : keyed_holds b s CountTooLarge ≡ true =
-    ap (λ t. not t && nat_le (length s.previous) s.record_.count) later ∙ le-leb (length s.previous) s.record_.count (omega (arith, ap length c.as_slice.ensures.value)) in
+    ap (λ t. not t && nat_le (length s.previous) s.record_.count) later
+    ∙ le-leb (length s.previous) s.record_.count (omega (arith, ap length c.as_slice.ensures.value)) in
     kinds_of-later b s c.requires first h
