@@ -6,7 +6,7 @@ use Rattle.host_model.specs.declared.host.FileNo.TheVariants.{Db}
 use Rattle.gds_header.specs.declared.kind.HeaderKind.{HeaderKind}
 use Rattle.gds_header.specs.declared.kind.HeaderKind.TheVariants.{ShortHeader}
 use Rattle.gds_header.specs.Kinds.{ending_kind}
-use Rattle.gds_header.proofs.Ending.{ending_kind-short}
+use Rattle.gds_header.proofs.EndingLemmas.{ending_kind-short}
 
 pub short_file : (told : Option Contents) (n : ℕ) → IfSome told (λ c. n ≡ length (file_of c Db)) → n < 8192
     → IfSome told (λ c. Some ShortHeader ≡ ending_kind c.db)

@@ -12,7 +12,7 @@ use Rattle.gds_header.specs.Fields.{fields_of, file_length_of}
 use Rattle.gds_header.specs.declared.kind.HeaderKind.{HeaderKind}
 use Rattle.gds_header.specs.declared.kind.HeaderKind.TheVariants.{ShortHeader, NotDatabase, BlockSizeNotMultiple, BlockSizeTooLarge, NoBlocks, BadLimit, ShortFile, LongFile, ReservedByte, BadTransactionNumber}
 use Rattle.gds_header.specs.Kinds.{IsWithinLimits, holds, ends, kinds, through_first, header_faults, ending_kind, reserved_bytes, has_free, groups_past}
-use Rattle.gds_header.proofs.Ending.{fields_of-front, ending_kind-short}
+use Rattle.gds_header.proofs.EndingLemmas.{fields_of-front, ending_kind-short}
 use Rattle.gds_cli.specs.SoundHeader.{IsHeaderOf, are_zeros, is_clear, is_faultless}
 
 -- where nothing is left of the front up to the first that ends, no kind holds
