@@ -1,0 +1,5 @@
+pub mod Subscripts
+pub mod Record
+pub mod Leaf
+pub mod Head
+pub mod Visit
