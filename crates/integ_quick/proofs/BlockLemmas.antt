@@ -6,7 +6,7 @@ use Rattle.std.proofs.lemmas.List.{drop-drop, nil_from_length}
 use Rattle.gds_block.specs.Block.{used_of, level_of}
 use Rattle.gds_block.specs.Record as block
 use Rattle.gds_block.specs.Record.{Record, bytes_left, records_of, records_from, first_record, is_well_sized}
-use Rattle.gds_block.proofs.RecordLaws.{Fits-from_well_sized, records_from-first, records_from-none}
+use Rattle.gds_block.proofs.RecordLemmas.{Fits-from_well_sized, records_from-first, records_from-none}
 use Rattle.m_key.specs.KeyEnd.{HasOpenFronts}
 use Rattle.m_key.proofs.KeyEndLemmas.{HasOpenFronts-nil}
 use Rattle.gds_law.specs.Visit.{global}

@@ -4,7 +4,7 @@ use Rattle.std.specs.Prelude.{option_map, count_by, ◌==◌, ◌&&◌, slice_in
 use Rattle.std.proofs.lemmas.List.{take_at, drop_at, take-append-drop, take-append-le, take-take, get_or-take, take_rest}
 use Rattle.gds_header.specs.declared.header.Header.{Header}
 use Rattle.m_key.specs.KeyEnd.{end_in, zero_after, shared}
-use Rattle.gds_law.specs.Key.{is_name}
+use Rattle.m_key.specs.Node.{is_name}
 use Rattle.gds_law.specs.Record.{is_below}
 use Rattle.integ_quick.specs.Subscripts.{AreSubscripts, IsKeyOf, IsStart}
 use Rattle.integ_quick.specs.Record.{EndsIn, Follows}

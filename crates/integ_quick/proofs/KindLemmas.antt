@@ -7,10 +7,11 @@ use Rattle.std.proofs.lemmas.Bool.{cond-true, cond-false}
 use Rattle.gds_block.specs.Record.{Record}
 use Rattle.gds_header.specs.Kinds.{through_first}
 use Rattle.gds_law.specs.Kinds.{ends, record_kinds}
-use Rattle.gds_law.specs.Key.{key_fault, name_part, subscript_parts}
+use Rattle.m_key.specs.KeyParts.{name_part, subscript_parts}
+use Rattle.gds_law.specs.Key.{key_fault}
 use Rattle.gds_law.specs.Block.{children_from}
 use Rattle.gds_law.specs.BlockReading.{BlockReading, PlacedRecord, size_of, is_last, key_of, rest_of, points, pointer_of}
-use Rattle.gds_law.specs.Record.{holds, keyed_holds, last_holds, is_kind, is_directory, is_other_global, is_above_bound, is_below_bound, has_pointer, kinds_of, is_ended, child_of, child_to}
+use Rattle.gds_law.specs.Record.{holds, keyed_holds, last_holds, is_kind, is_directory, is_other_global, is_above_bound, is_below_bound, has_pointer, kinds_of, is_ended, children_of_record, child_to}
 use Rattle.gds_law.specs.declared.kind.FaultKind.{FaultKind}
 use Rattle.gds_law.specs.declared.kind.FaultKind.TheVariants.{StarSize, StarCount, FirstCount, CountTooLarge, KeyTooLong, KeyWithoutEnd, WrongCount, KeyOutOfOrder, BadName, TooManySubscripts, BadNumber, BadString, NullSubscript, DirectorySubscript, WrongGlobal, KeyAboveBound, KeyBelowBound, RestNotPointer, ValueTooLong, PointerNotPositive, PointerTooLarge, PointerToMap}
 

@@ -7,7 +7,8 @@ use Rattle.std.proofs.lemmas.Slice.Eq.{bytes_eq-Decides}
 use Rattle.m_key.specs.KeyEnd.{key_len, end_in, zero_after, shared, HasOpenFronts}
 use Rattle.m_key.proofs.KeyEndLemmas.{key_len-end_in, end_in-append_open, end_in-take_same, key_len-append, HasOpenFronts-take}
 use Rattle.gds_law.specs.Visit.{global}
-use Rattle.gds_law.specs.Key.{key_fault, name_part}
+use Rattle.m_key.specs.KeyParts.{name_part}
+use Rattle.gds_law.specs.Key.{key_fault}
 use Rattle.gds_law.specs.BlockReading.{BlockReading, PlacedRecord, is_first, is_last, size_of, full_of, key_end, key_of, rest_of, has_values, points}
 use Rattle.gds_law.specs.Record.{keyed_holds, is_below, is_directory, is_other_global, is_above_bound, is_below_bound, kinds_of, is_ended}
 use Rattle.gds_law.specs.declared.kind.FaultKind.TheVariants.{FirstCount, CountTooLarge}

@@ -1,20 +1,22 @@
 -- Names and subscripts in keys.
 use Rattle.std.proofs.Common.{ℕ, zero, suc, cond, ◌≡◌, ◌+◌, ◌-◌, ◌*◌, ◌<◌, ◌≤◌, ◌⊎◌, inl, inr, Bool, true, false, List, [], ◌∷◌, ◌++◌, length, get_or, take, drop, Option, None, Some, refl, sym, ◌∙◌, ap, subst, arith, append_assoc, length-append}
 use Rattle.std.specs.Prelude.{not, ◌==◌, count_by, nat_lt}
-use Rattle.std.specs.List.{AllByRecursion, slice_split, join_with_byte, onto_first, take_while}
+use Rattle.std.specs.List.{AllByRecursion, join_with_byte}
 use Rattle.std.specs.Option.{option_or}
 use Rattle.std.proofs.lemmas.Bool.{eq-eqb, ne_eqb, cases_lt, cond-true}
 use Rattle.std.proofs.lemmas.List.{take_at, drop_at, get_or_append_left, get_or-append_right, take-append-le, take-append-drop, take_all, drop_more, nil_from_length}
-use Rattle.std.proofs.lemmas.List.Splits.{slice_split-cons_no}
-use Rattle.std.proofs.lemmas.List.Sums.{take_while-cons, sum_by-append, sum_by-cons}
-use Rattle.m_key.specs.Node.{Node, IsNode}
+use Rattle.std.proofs.lemmas.List.Elements.{All-from_recursion}
+use Rattle.std.proofs.lemmas.List.Sums.{sum_by-append, sum_by-cons}
+use Rattle.m_key.specs.Node.{Node, IsNode, is_name}
+use Rattle.m_key.specs.KeyParts.{name_part, subscript_parts}
+use Rattle.m_key.proofs.KeyPartLemmas.{is_name-Decides, name_part-append, name_part-none, pieces-joined, subscript_parts-is}
 use Rattle.m_key.proofs.ZeroLemmas.{NoZero}
 use Rattle.m_key.proofs.KeyLemmas as keys
 use Rattle.m_key.proofs.Numbers.{numbers}
-use Rattle.gds_law.specs.Key.{name_part, subscript_parts, is_name, subscript_fault, first_fault, key_fault}
+use Rattle.gds_law.specs.Key.{subscript_fault, first_fault, key_fault}
 use Rattle.gds_law.specs.declared.kind.FaultKind.{FaultKind}
 use Rattle.gds_law.specs.declared.kind.FaultKind.TheVariants.{BadNumber}
-use Rattle.gds_law.proofs.KeyLaws.{parts, by_parts, is_name-Decides}
+use Rattle.gds_law.proofs.KeyLaws.{by_parts}
 use Rattle.integ_quick.specs.Subscripts.{IsRight, ended_before, AreSubscripts, IsKeyOf, IsStart}
 
 -- ---- names
@@ -25,11 +27,7 @@ NoZero-name name h =
     keys.NoZero-name numbers n (record { name = (is_name-Decides name).0 h; count = omega arith; subscripts = λ k d l. absurd (omega arith) })
 
 name_part-ended : (name rest : List ℕ) → NoZero name → name_part (name ++ 0 ∷ rest) ≡ name
-name_part-ended [] rest h = refl
-name_part-ended (b ∷ name) rest h =
-    take_while-cons (λ b. not (b == 0)) b (name ++ 0 ∷ rest)
-    ∙ cond-true _ _ _ (ap not (ne_eqb b 0 (λ e. omega (arith, h.0))))
-    ∙ ap (λ xs. b ∷ xs) (name_part-ended name rest h.1)
+name_part-ended name rest h = name_part-append name rest ∙ sym (name_part-none name (All-from_recursion (λ b. 0 < b) name h))
 
 -- ---- subscripts
 
@@ -39,14 +37,6 @@ AreSubscripts-end = record { parts = []; right = tt; whole = refl }
 pub AreSubscripts-cons : (part rest : List ℕ) → IsRight part → AreSubscripts rest → AreSubscripts (part ++ 0 ∷ rest)
 AreSubscripts-cons part rest h k = record { parts = part ∷ k.parts; right = (h, k.right); whole = ap (λ xs. part ++ 0 ∷ xs) k.whole }
 
-parts_alone : (xs : List ℕ) → NoZero xs → parts xs ≡ xs ∷ []
-parts_alone [] h = refl
-parts_alone (x ∷ xs) h = slice_split-cons_no (λ b. b == 0) x xs (ne_eqb x 0 (λ e. omega (arith, h.0))) ∙ ap (onto_first x) (parts_alone xs h.1)
-
-parts_ended : (xs ys : List ℕ) → NoZero xs → parts (xs ++ 0 ∷ ys) ≡ xs ∷ parts ys
-parts_ended [] ys h = refl
-parts_ended (x ∷ xs) ys h = slice_split-cons_no (λ b. b == 0) x (xs ++ 0 ∷ ys) (ne_eqb x 0 (λ e. omega (arith, h.0))) ∙ ap (onto_first x) (parts_ended xs ys h.1)
-
 -- the bytes before the last two zeros
 abbrev front_of : List ℕ → List (List ℕ) → List ℕ
 front_of name ps = join_with_byte 0 (name ∷ ps)
@@ -55,16 +45,13 @@ key-front : (name : List ℕ) (ps : List (List ℕ)) → name ++ 0 ∷ ended_bef
 key-front name [] = refl
 key-front name (p ∷ ps) = ap (λ xs. name ++ 0 ∷ xs) (key-front p ps) ∙ sym (append_assoc name (0 ∷ front_of p ps) (0 ∷ 0 ∷ []))
 
-parts-front : (name : List ℕ) (ps : List (List ℕ)) → NoZero name → AllByRecursion IsRight ps → parts (front_of name ps) ≡ name ∷ ps
-parts-front name [] h k = parts_alone name h
-parts-front name (p ∷ ps) h k = parts_ended name (front_of p ps) h ∙ ap (λ l. name ∷ l) (parts-front p ps k.0.no_zero k.1)
+no_zeros : (ps : List (List ℕ)) → AllByRecursion IsRight ps → AllByRecursion NoZero ps
+no_zeros [] h = tt
+no_zeros (p ∷ ps) h = (h.0.no_zero, no_zeros ps h.1)
 
 first_fault-none : (ps : List (List ℕ)) → AllByRecursion IsRight ps → first_fault ps ≡ None
 first_fault-none [] h = refl
 first_fault-none (p ∷ ps) h = ap (λ o. option_or o (first_fault ps)) h.0.faultless ∙ first_fault-none ps h.1
-
-without_two : (front : List ℕ) → take (length (front ++ 0 ∷ 0 ∷ []) - 2) (front ++ 0 ∷ 0 ∷ []) ≡ front
-without_two front = take_at front (0 ∷ 0 ∷ []) _ (let e : length front ≡ length (front ++ 0 ∷ 0 ∷ []) - 2 = omega (arith, length-append front (0 ∷ 0 ∷ [])) in e)
 
 module _ (name key : List ℕ) (named : is_name name ≡ true) (k : IsKeyOf name key) where
   abbrev ps : List (List ℕ)
@@ -78,8 +65,8 @@ module _ (name key : List ℕ) (named : is_name name ≡ true) (k : IsKeyOf name
 
   subscript_parts-key : subscript_parts key ≡ ps
   subscript_parts-key =
-      ap subscript_parts is ∙ ap (λ xs. drop 1 (parts xs)) (without_two (front_of name ps))
-      ∙ ap (drop 1) (parts-front name ps (NoZero-name name named) k.subscripts.right)
+      ap subscript_parts is ∙ subscript_parts-is (front_of name ps)
+      ∙ ap (drop 1) (pieces-joined name ps (NoZero-name name named) (no_zeros ps k.subscripts.right))
 
   pub key_fault-none : length k.subscripts.parts ≤ 31 → key_fault key ≡ None
   key_fault-none few =

@@ -14,7 +14,8 @@ use Rattle.m_number.specs.Bytes.{bytes_of}
 use Rattle.m_number.specs.declared.number.Number.{Number}
 use Rattle.m_number.specs.Text.{codes_of, large_text, nonzero_text, size_text, text_of}
 use Rattle.gds_law.specs.Number.{is_number_text, is_number_bytes}
-use Rattle.gds_law.specs.Key.{unescaped, is_text, subscript_fault}
+use Rattle.m_key.specs.KeyParts.{unescaped}
+use Rattle.gds_law.specs.Key.{is_text, subscript_fault}
 use Rattle.gds_law.specs.declared.kind.FaultKind.TheVariants.{BadNumber, BadString, NullSubscript}
 use Rattle.gds_law.proofs.NumberLaws.{text_test, bytes_test}
 use Rattle.integ_quick.specs.Subscripts.{begins_number}

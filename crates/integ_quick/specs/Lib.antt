@@ -2,4 +2,3 @@ pub mod Subscripts
 pub mod Record
 pub mod Leaf
 pub mod Head
-pub mod Visit

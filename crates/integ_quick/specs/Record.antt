@@ -4,7 +4,8 @@ use Rattle.gds_block.specs.Fields.{u16_at}
 use Rattle.gds_block.specs.Record.{is_well_sized, size_of}
 use Rattle.gds_header.specs.declared.header.Header.{Header}
 use Rattle.m_key.specs.KeyEnd.{end_in, zero_after, shared}
-use Rattle.gds_law.specs.Key.{key_fault, name_part}
+use Rattle.m_key.specs.KeyParts.{name_part}
+use Rattle.gds_law.specs.Key.{key_fault}
 use Rattle.gds_law.specs.Record.{is_below}
 use Rattle.integ_quick.specs.Subscripts.{IsKeyOf}
 

@@ -2,7 +2,7 @@ ghost use Rattle.std.specs.Prelude.{◌≡◌, ◌≤◌, ◌<◌, ◌+◌, ◌�
 ghost use Rattle.std.specs.Bool.{OnTrue};
 ghost use Rattle.arrayvec.specs.ArrayVec.{array_vec_len};
 ghost use Rattle.gds_block.specs.Record.{records_of};
-ghost use Rattle.gds_law.specs.Key.{is_name};
+ghost use Rattle.m_key.specs.Node.{is_name};
 ghost use Rattle.gds_law.specs.BlockReading.{BlockReading};
 ghost use Rattle.gds_law.specs.Record.{is_above_bound, is_below_bound};
 ghost use Rattle.gds_law.specs.Block.{kinds_from};

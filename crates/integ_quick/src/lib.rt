@@ -1,14 +1,14 @@
-//! A quick reading of blocks in which nothing is wrong, which are the rule.
+//! A quick reading of blocks with which nothing is wrong, as they are the rule.
 #![tactic(auto)]
 
-ghost use Rattle.std.specs.Prelude.{◌≡◌, ℕ, [], length, option_map, true, IfSome};
+ghost use Rattle.std.specs.Prelude.{◌≡◌, [], length, IfSome};
 ghost use Rattle.std.specs.Bool.{OnTrue};
 ghost use Rattle.gds_block.specs.Record.{bytes_left};
 ghost use Rattle.gds_header.specs.Kinds.{IsWithinLimits};
+ghost use Rattle.gds_law.specs.Visit.{visit_of};
 ghost use Rattle.gds_law.specs.BlockReading.{reading_of};
 ghost use Rattle.gds_law.specs.Block.{kinds_of_block, children_of};
 ghost use Rattle.integ_quick.specs.Head.{IsCleanHead};
-ghost use Rattle.integ_quick.specs.Visit.{leaf_visit};
 
 mod front;
 mod leaf;
@@ -16,38 +16,33 @@ mod subscripts;
 
 use gds_block::{u16_at, u32_at, u64_at};
 use gds_header::Header;
+use gds_law::{Role, Visit};
 use leaf::Leaf;
-use m_key::{Key, name_of};
+use m_key::is_name;
 
-/// Whether a quick reading finds nothing wrong with a block that a path leads to as a level-0 block of the global of
-/// this name, where this level is due and the keys aren't below `low` and are below `high`. Then no kind of fault
-/// stands of it, and it has no children. Where the answer is false, something may be wrong or nothing.
-pub fn is_clean_leaf(
-    bytes: &[u8],
-    header: &Header,
-    name: &[u8],
-    level: Option<u8>,
-    low: &Option<Key>,
-    high: &Option<Key>,
-) -> bool
+/// Whether a quick reading finds the block to be a level-0 block of a global with which nothing is wrong. Then no kind
+/// of fault stands of it, and it has no children. It may find so or not of such a block, and never of another one.
+pub fn is_clean_leaf(bytes: &[u8], header: &Header, visit: &Visit) -> bool
     requires limits { IsWithinLimits header.now }
     requires whole { length bytes.now ≡ header.now.block_size }
-    ensures clean { OnTrue result ((block : ℕ) →
-        kinds_of_block (reading_of header.now (leaf_visit block name.now level low.now high.now) bytes.now) bytes.now ≡ []) }
-    ensures childless { OnTrue result ((block : ℕ) →
-        children_of header.now (leaf_visit block name.now level low.now high.now) bytes.now ≡ []) }
+    ensures clean { OnTrue result
+        (kinds_of_block (reading_of header.now (visit_of visit.now) bytes.now) bytes.now ≡ []) }
+    ensures childless { OnTrue result (children_of header.now (visit_of visit.now) bytes.now ≡ []) }
 {
-    let Some(records) = clean_records(bytes, header, level) else {
+    let Role::Global(name) = &visit.role else {
         return false;
     };
-    if name_of(name).is_none() {
+    let Some(records) = clean_records(bytes, header, visit.level) else {
+        return false;
+    };
+    if !is_name(name.as_slice()) {
         return false;
     }
     let leaf = Leaf {
         header,
-        name,
-        low,
-        high,
+        name: name.as_slice(),
+        low: &visit.low,
+        high: &visit.high,
     };
     leaf.are_clean(records)
 }
