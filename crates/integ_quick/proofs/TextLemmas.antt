@@ -17,7 +17,7 @@ use Rattle.gds_law.specs.Number.{is_number_text, is_number_bytes}
 use Rattle.m_key.specs.KeyParts.{unescaped}
 use Rattle.gds_law.specs.Key.{is_text, subscript_fault}
 use Rattle.gds_law.specs.declared.kind.FaultKind.TheVariants.{BadNumber, BadString, NullSubscript}
-use Rattle.gds_law.proofs.NumberLaws.{text_test, bytes_test}
+use Rattle.gds_law.proofs.NumberLemmas.{text_test, bytes_test}
 use Rattle.integ_quick.specs.Subscripts.{begins_number}
 
 -- ---- numbers
