@@ -111,5 +111,5 @@ child_to b s None = []
 child_to b s (Some p) = if is_sound b p then record { offset = s.record_.offset; visit = target_of b s p } ∷ [] else []
 
 -- the child of a record that doesn't end the reading, if its pointer is sound
-abbrev pub child_of : BlockReading → PlacedRecord → List Child
-child_of b s = child_to b s (pointer_of b s)
+abbrev pub children_of_record : BlockReading → PlacedRecord → List Child
+children_of_record b s = child_to b s (pointer_of b s)

@@ -1,5 +1,5 @@
 ghost use Rattle.std.specs.Prelude.{◌≡◌, option_map};
-ghost use Rattle.gds_law.specs.Fault.{role_of};
+ghost use Rattle.gds_law.specs.Visit.{role_of};
 
 use gds_law::Role;
 use m_key::{Key, key_from};

@@ -1,12 +1,11 @@
 ghost use Rattle.std.specs.Prelude.{◌≡◌};
 ghost use Rattle.gds_header.specs.Kinds.{IsWithinLimits};
-ghost use Rattle.gds_law.specs.Fault.{told_of};
 
 mod rows;
 
 use super::*;
 use gds_block::write_head;
-use gds_law::{Fault, Path, Role, SinkTrouble};
+use gds_law::{Fault, Path, Role, SinkTrouble, Visit};
 use m_key::{Key, key_from};
 use rows::{NONE, ROWS};
 use std::alloc::Global;
@@ -21,10 +20,7 @@ struct Kept {
 }
 
 impl FaultSink for Kept {
-    ghost use Rattle.std.specs.Prelude.{map};
-    ghost use Rattle.gds_law.specs.Fault.{told_of};
-
-    ghost listed = { λ kept. map told_of kept.faults.items };
+    ghost listed = { λ kept. kept.faults.items };
 
     ghost failures = { λ kept. kept.failures };
 
@@ -41,7 +37,7 @@ impl FaultSink for Kept {
 }
 
 fn copied(fault: &Fault) -> Fault
-    ensures { told_of result ≡ told_of fault.now }
+    ensures { result ≡ fault.now }
 {
     Fault {
         kind: fault.kind,
@@ -104,14 +100,16 @@ fn at(place: Place) -> At {
     };
     At {
         path: Path::new(),
-        block: 7,
-        role: match place {
-            Place::Names => Role::Directory,
-            _ => Role::Global(key_from(b"A")),
+        visit: Visit {
+            block: 7,
+            role: match place {
+                Place::Names => Role::Directory,
+                _ => Role::Global(key_from(b"A")),
+            },
+            level,
+            low,
+            high,
         },
-        level,
-        low,
-        high,
     }
 }
 
@@ -151,11 +149,13 @@ fn tells_each_kind(rt: HostRuntime) -> Result<(), Fail> {
 fn inner(offset: u32, block: u32, low: u8, high: u8) -> Child {
     Child {
         offset,
-        block,
-        role: Role::Global(key_from(b"A")),
-        level: Some(0),
-        low: Some(node(low)),
-        high: Some(node(high)),
+        visit: Visit {
+            block,
+            role: Role::Global(key_from(b"A")),
+            level: Some(0),
+            low: Some(node(low)),
+            high: Some(node(high)),
+        },
     }
 }
 
@@ -182,11 +182,13 @@ fn appends_children(rt: HostRuntime) -> Result<(), Fail> {
     assert_eq!(rt; sink.faults.len(), 1);
     let root = Child {
         offset: 27,
-        block: 3,
-        role: Role::Global(key_from(b"B")),
-        level: None,
-        low: None,
-        high: None,
+        visit: Visit {
+            block: 3,
+            role: Role::Global(key_from(b"B")),
+            level: None,
+            low: None,
+            high: None,
+        },
     };
     let wanted = [inner(16, 4, 0x11, 0x21), inner(30, 5, 0x21, 0x31), root];
     assert_eq!(rt; children.as_slice(), wanted.as_slice());
