@@ -18,7 +18,7 @@ use Rattle.m_key.specs.KeyParts.{unescaped}
 use Rattle.gds_law.specs.Key.{is_text, subscript_fault}
 use Rattle.gds_law.specs.declared.kind.FaultKind.{FaultKind}
 use Rattle.gds_law.specs.declared.kind.FaultKind.TheVariants.{BadNumber}
-use Rattle.gds_law.proofs.NumberLaws.{text_test, bytes_test}
+use Rattle.gds_law.proofs.NumberLemmas.{text_test, bytes_test}
 
 -- ---- numbers
 

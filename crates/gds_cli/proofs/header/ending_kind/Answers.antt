@@ -13,7 +13,7 @@ returns-in-Err-clause-kind g c =
     let begun =
     begins_told (g.H.Host.told c.args.host.now)
     (g.H.Host.told c.len.new.self) c.in_ok-length.length c.in_ok-read.field-0 _ c.read.new.out
-    c.in_ok-length.ensures.length c.in_ok-length.ensures.told refl c.read.auto.out
+    c.in_ok-length.ensures.length c.in_ok-length.ensures.kept.told refl c.read.auto.out
     c.if-branch-lt-HEADER_LENGTH.false c.in_ok-read.ensures.bytes in
     decided _ _ _ _ begun (λ file b. c.in-Err.ensures.file_err file b.front ∙ ap Some (sym c.from.ensures))
 
@@ -22,7 +22,7 @@ returns-in-Ok-clause-kind g c =
     let begun =
     begins_told (g.H.Host.told c.args.host.now)
     (g.H.Host.told c.len.new.self) c.in_ok-length.length c.in_ok-read.field-0 _ c.read.new.out
-    c.in_ok-length.ensures.length c.in_ok-length.ensures.told refl c.read.auto.out
+    c.in_ok-length.ensures.length c.in_ok-length.ensures.kept.told refl c.read.auto.out
     c.if-branch-lt-HEADER_LENGTH.false c.in_ok-read.ensures.bytes in
     decided _ _ _ _ begun (λ file b.
     let short : length file < c.file_length.result = omega (arith, b.count, c.if-length-file_length.true) in
@@ -35,7 +35,7 @@ returns-in-Ok-2-clause-kind g c =
     let begun =
     begins_told (g.H.Host.told c.args.host.now)
     (g.H.Host.told c.len.new.self) c.in_ok-length.length c.in_ok-read.field-0 _ c.read.new.out
-    c.in_ok-length.ensures.length c.in_ok-length.ensures.told refl c.read.auto.out
+    c.in_ok-length.ensures.length c.in_ok-length.ensures.kept.told refl c.read.auto.out
     c.if-branch-lt-HEADER_LENGTH.false c.in_ok-read.ensures.bytes in
     decided _ _ _ _ begun (λ file b.
     let long : c.file_length.result ≤ length file = omega (arith, b.count, c.if-length-file_length.false) in

@@ -16,7 +16,7 @@ returns-clause-some g c =
     let begun =
     begins_told (g.H.Host.told c.args.host.now)
     (g.H.Host.told c.len.new.self) c.in_ok-length.length c.in_ok-read.field-0 _ c.read.new.out
-    c.in_ok-length.ensures.length c.in_ok-length.ensures.told refl c.read.auto.out
+    c.in_ok-length.ensures.length c.in_ok-length.ensures.kept.told refl c.read.auto.out
     c.if-branch-lt-HEADER_LENGTH.false c.in_ok-read.ensures.bytes in
     some_weaker c.sound.result
     (λ h. (d : List ℕ) → take 8192 d ≡ c.read.new.out → length d ≡ c.in_ok-length.length → IsHeaderOf h d)
@@ -30,7 +30,7 @@ returns-clause-none g c =
     let begun =
     begins_told (g.H.Host.told c.args.host.now)
     (g.H.Host.told c.len.new.self) c.in_ok-length.length c.in_ok-read.field-0 _ c.read.new.out
-    c.in_ok-length.ensures.length c.in_ok-length.ensures.told refl c.read.auto.out
+    c.in_ok-length.ensures.length c.in_ok-length.ensures.kept.told refl c.read.auto.out
     c.if-branch-lt-HEADER_LENGTH.false c.in_ok-read.ensures.bytes in
     none_weaker c.sound.result
     ((d : List ℕ) → take 8192 d ≡ c.read.new.out → length d ≡ c.in_ok-length.length → header_faults d ≡ [] → ⊥)
