@@ -11,7 +11,7 @@ use Rattle.m_key.specs.Key.{key_bytes}
 use Rattle.m_key.specs.Collation.{subscript_cmp, reference_cmp}
 use Rattle.m_key.specs.Globals.{Globals, Place, place_cmp}
 use Rattle.m_key.proofs.KeyLemmas.{order}
-use Rattle.m_key.proofs.Numbers.{numbers}
+use Rattle.m_key.proofs.NumberLemmas.{numbers}
 use Rattle.gds_block.specs.Record.{Record, records_of}
 use Rattle.gds_header.specs.declared.header.Header.{Header}
 use Rattle.gds_cli.specs.Thin.{Valued, AreRecordsOf, IsLeaf, IsGlobal, IsThin, IsThinWith}

@@ -10,7 +10,7 @@ use Rattle.m_key.specs.Collation.{reference_cmp}
 use Rattle.m_key.specs.Globals.{Place}
 use Rattle.m_key.proofs.KeyLemmas.{none_begins}
 use Rattle.m_key.proofs.PlaceLemmas.{place_total, place_same}
-use Rattle.m_key.proofs.Numbers.{numbers}
+use Rattle.m_key.proofs.NumberLemmas.{numbers}
 use Rattle.gds_block.specs.Block.{used_of, level_of, IsBlock}
 use Rattle.gds_block.specs.Record.{Record, size_of, is_well_sized, first_record, records_up_to, records_of, bytes_left}
 use Rattle.gds_block.proofs.RecordLemmas.{Fits-from_well_sized}

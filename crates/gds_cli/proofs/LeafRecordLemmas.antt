@@ -14,7 +14,7 @@ use Rattle.m_key.specs.KeyEnd.{end_in, zero_after, shared}
 use Rattle.m_key.proofs.KeyEndLemmas.{shared-le, take-shared, end_in-append_open, end_in-take_less}
 use Rattle.m_key.proofs.ZeroLemmas.{NoZero, cmp-prefix}
 use Rattle.m_key.proofs.KeyLemmas.{Right, key-is, ended-more, NoZero-subscript, NoZero-name, begun}
-use Rattle.m_key.proofs.Numbers.{numbers}
+use Rattle.m_key.proofs.NumberLemmas.{numbers}
 use Rattle.gds_block.specs.Record.{Record}
 use Rattle.gds_cli.specs.Leaf.{IsSplit}
 

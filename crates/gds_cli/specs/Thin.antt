@@ -11,7 +11,7 @@ use Rattle.m_key.specs.KeyEnd.{shared}
 use Rattle.m_key.specs.Globals.{Globals, Place}
 use Rattle.gds_block.specs.Fields.{u16_at, u32_at}
 use Rattle.gds_block.specs.Block.{IsBlock, version_of, reserved_of, level_of, used_of}
-use Rattle.gds_block.specs.Record.{Record, records_of}
+use Rattle.gds_block.specs.Record.{Record, full_of, records_of}
 use Rattle.gds_header.specs.declared.header.Header.{Header}
 use Rattle.gds_header.specs.Fields.{fields_of, block_of}
 use Rattle.gds_header.specs.Kinds.{header_faults}
@@ -36,7 +36,7 @@ is_star_block h block =
 -- A record behind a key is that of a node and its value: its count is that of the leading bytes which the keys share,
 -- and its key has no more bytes than the header allows and is above the key before it.
 pub record IsRecordOf (h : Header) (previous : List ℕ) (r : Record) (v : Valued) : Type 0 where
-  pub bytes : take r.count previous ++ r.body ≡ key_bytes v.0.node ++ v.1
+  pub bytes : full_of previous r ≡ key_bytes v.0.node ++ v.1
   pub exact : r.count ≡ shared previous (key_bytes v.0.node)
   pub within : length (key_bytes v.0.node) ≤ h.key_max
   pub above : IsTrue (is_lt (slice_cmp nat_cmp previous (key_bytes v.0.node)))
