@@ -12,11 +12,11 @@ use Rattle.m_key.specs.KeyParts.{name_part, subscript_parts}
 use Rattle.m_key.proofs.KeyPartLemmas.{is_name-Decides, name_part-append, name_part-none, pieces-joined, subscript_parts-is}
 use Rattle.m_key.proofs.ZeroLemmas.{NoZero}
 use Rattle.m_key.proofs.KeyLemmas as keys
-use Rattle.m_key.proofs.Numbers.{numbers}
+use Rattle.m_key.proofs.NumberLemmas.{numbers}
 use Rattle.gds_law.specs.Key.{subscript_fault, first_fault, key_fault}
 use Rattle.gds_law.specs.declared.kind.FaultKind.{FaultKind}
 use Rattle.gds_law.specs.declared.kind.FaultKind.TheVariants.{BadNumber}
-use Rattle.gds_law.proofs.KeyLaws.{by_parts}
+use Rattle.gds_law.proofs.KeyLemmas.{by_parts}
 use Rattle.integ_quick.specs.Subscripts.{IsRight, ended_before, AreSubscripts, IsKeyOf, IsStart}
 
 -- ---- names
