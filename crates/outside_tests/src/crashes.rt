@@ -125,14 +125,54 @@ fn crashed(
 #[test]
 fn a_failed_change_counts_for_a_crash(rt: HostRuntime) -> Result<(), Fail> {
     let rows: [(&str, Change, FileNo, [&[u8]; 4]); 8] = [
-        ("a write of blocks", Change::Write, FileNo::Db, [b"blocks", b"blocks", b"b\xFF\xFFcks", b"b\xFF\xFFcks"]),
-        ("a write of images", Change::Write, FileNo::Images, [b"images", b"images", b"i\xFF\xFFges", b"i\xFF\xFFges"]),
-        ("more blocks", Change::Append, FileNo::Db, [b"blocks", b"blocks", b"block\xFF", b"block\xFF"]),
-        ("more images", Change::Append, FileNo::Images, [b"images", b"images", b"image\xFF", b"image\xFF"]),
-        ("a cut of blocks", Change::Cut, FileNo::Db, [b"blocks", b"blocks", b"bloc\xFF\xFF", b"bloc\xFF\xFF"]),
-        ("a cut of images", Change::Cut, FileNo::Images, [b"images", b"images", b"imag\xFF\xFF", b"imag\xFF\xFF"]),
-        ("a sync of blocks", Change::Sync, FileNo::Db, [b"blocks", b"blocks!!", b"blocks", b"blocks\xFF\xFF"]),
-        ("a sync of images", Change::Sync, FileNo::Images, [b"images", b"images!!", b"images", b"images\xFF\xFF"]),
+        (
+            "a write of blocks",
+            Change::Write,
+            FileNo::Db,
+            [b"blocks", b"blocks", b"b\xFF\xFFcks", b"b\xFF\xFFcks"],
+        ),
+        (
+            "a write of images",
+            Change::Write,
+            FileNo::Images,
+            [b"images", b"images", b"i\xFF\xFFges", b"i\xFF\xFFges"],
+        ),
+        (
+            "more blocks",
+            Change::Append,
+            FileNo::Db,
+            [b"blocks", b"blocks", b"block\xFF", b"block\xFF"],
+        ),
+        (
+            "more images",
+            Change::Append,
+            FileNo::Images,
+            [b"images", b"images", b"image\xFF", b"image\xFF"],
+        ),
+        (
+            "a cut of blocks",
+            Change::Cut,
+            FileNo::Db,
+            [b"blocks", b"blocks", b"bloc\xFF\xFF", b"bloc\xFF\xFF"],
+        ),
+        (
+            "a cut of images",
+            Change::Cut,
+            FileNo::Images,
+            [b"images", b"images", b"imag\xFF\xFF", b"imag\xFF\xFF"],
+        ),
+        (
+            "a sync of blocks",
+            Change::Sync,
+            FileNo::Db,
+            [b"blocks", b"blocks!!", b"blocks", b"blocks\xFF\xFF"],
+        ),
+        (
+            "a sync of images",
+            Change::Sync,
+            FileNo::Images,
+            [b"images", b"images!!", b"images", b"images\xFF\xFF"],
+        ),
     ];
     for (label, change, file, want) in rows {
         for failing in [Failing::Listed, Failing::Burnt] {
@@ -141,9 +181,17 @@ fn a_failed_change_counts_for_a_crash(rt: HostRuntime) -> Result<(), Fail> {
                 let (left, other) = files(&failed.left, file);
                 assert_eq!(rt; failed.answer, Err(HostFailed), "{label}, {failing:?}");
                 assert_eq!(rt; failed.starved, 0, "{label}, {failing:?}");
-                assert_eq!(rt; failed.calls as u64, change.number(), "{label}, {failing:?}");
+                assert_eq!(rt;
+                    failed.calls as u64,
+                    change.number(),
+                    "{label}, {failing:?}"
+                );
                 assert_eq!(rt; left, *want, "{label}, {failing:?}, choice {choice}");
-                assert_eq!(rt; other, first_of_other(file), "{label}, {failing:?}, choice {choice}");
+                assert_eq!(rt;
+                    other,
+                    first_of_other(file),
+                    "{label}, {failing:?}, choice {choice}"
+                );
             }
         }
     }
@@ -156,14 +204,23 @@ fn crashes_by_choice(rt: HostRuntime) -> Result<(), Fail> {
         ("what is stable", 0, b"blocks", b"images"),
         ("what a read gives", 1, b"bXYc", b"images too"),
         ("the stable length", 2, b"b\xFF\xFFc\xFF\xFF", b"images"),
-        ("the length now", 3, b"b\xFF\xFFc", b"images\xFF\xFF\xFF\xFF"),
+        (
+            "the length now",
+            3,
+            b"b\xFF\xFFc",
+            b"images\xFF\xFF\xFF\xFF",
+        ),
         ("the remainder counts", 5, b"bXYc", b"images too"),
     ];
     for (label, choice, db, images) in rows {
         let mut host = host(rt.alloc(), &[8])?;
         assert_eq!(rt; write(&mut host, FileNo::Db, 1, b"XY"), Ok(()), "{label}");
         assert_eq!(rt; cut(&mut host, FileNo::Db, 4), Ok(()), "{label}");
-        assert_eq!(rt; write(&mut host, FileNo::Images, 6, b" too"), Ok(()), "{label}");
+        assert_eq!(rt;
+            write(&mut host, FileNo::Images, 6, b" too"),
+            Ok(()),
+            "{label}"
+        );
         assert_eq!(rt; host.say(b"so far"), Ok(()), "{label}");
         assert_eq!(rt; host.sync(FileNo::Images), Err(HostFailed), "{label}");
         let left = host.crash(choice)?;

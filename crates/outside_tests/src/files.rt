@@ -79,8 +79,20 @@ fn changes_the_file_that_is_named(rt: HostRuntime) -> Result<(), Fail> {
     let path = own_path(&rt, "both")?;
     let images = format!(in rt.alloc(); "{path}.bi")?;
     let rows: [(&str, FileNo, &[u8], &[u8], &[u8]); 2] = [
-        ("the file of blocks", FileNo::Db, b"bXYc", b"bXYc", b"images"),
-        ("the file of images", FileNo::Images, b"iXYg", b"blocks", b"iXYg"),
+        (
+            "the file of blocks",
+            FileNo::Db,
+            b"bXYc",
+            b"bXYc",
+            b"images",
+        ),
+        (
+            "the file of images",
+            FileNo::Images,
+            b"iXYg",
+            b"blocks",
+            b"iXYg",
+        ),
     ];
     for (label, file, want, blocks_after, images_after) in rows {
         fs::write(&rt, path.as_str(), b"blocks".as_slice())?;
