@@ -8,7 +8,7 @@ use Rattle.std.proofs.lemmas.Cmp.{lists_total, then_total, on_total, nat_cmp_tot
 use Rattle.gds_header.specs.Fields.{fields_of, block_of}
 use Rattle.gds_law.specs.Visit.{Visit, Child, directory_root}
 use Rattle.gds_law.specs.Path.{Steps, children_at, child_at, visit_from, visit_at, step_cmp, path_cmp, front_of}
-use Rattle.gds_law.proofs.Membership.{IsIn, in_map, in_flat_map}
+use Rattle.gds_law.proofs.MembershipLemmas.{IsIn, in_map, in_flat_map}
 use Rattle.gds_law.proofs.RankLemmas.{rank, falls}
 
 step_total : IsTotalOrder step_cmp

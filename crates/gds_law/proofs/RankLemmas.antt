@@ -12,7 +12,7 @@ use Rattle.gds_law.specs.Record.{target_of, is_ended, child_to, children_of_reco
 use Rattle.gds_law.specs.Block.{is_wrong_level, head_holds, kinds_of_head, children_from, children_of}
 use Rattle.gds_law.specs.declared.kind.FaultKind.{FaultKind}
 use Rattle.gds_law.specs.declared.kind.FaultKind.TheVariants.{WrongLevel}
-use Rattle.gds_law.proofs.Membership.{IsIn, in_either}
+use Rattle.gds_law.proofs.MembershipLemmas.{IsIn, in_either}
 
 -- a global's tree has 8 levels at most, and so has the directory's, which leads to them
 abbrev pub rank_of : TreeRole → Option ℕ → ℕ

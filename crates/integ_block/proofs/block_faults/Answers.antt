@@ -12,9 +12,9 @@ use Rattle.gds_header.specs.declared.header.Header.{Header}
 use Rattle.integ_block.specs.BlockReading.{reading, faults_at}
 use Rattle.gds_law.specs.Visit.{visit_of}
 use Rattle.integ_block.specs.Child.{child_of}
-use Rattle.integ_block.proofs.BlockLaws.{length-faults}
-use Rattle.integ_block.proofs.HeadLaws.{b, head, behind, same-head, same-behind, IsBlock-open, faults-head, children-head, faults-all, children-all, faults-begin}
-use Rattle.integ_block.proofs.KindLaws.{kept}
+use Rattle.integ_block.proofs.BlockLemmas.{length-faults}
+use Rattle.integ_block.proofs.HeadLemmas.{b, head, behind, same-head, same-behind, IsBlock-open, faults-head, children-head, faults-all, children-all, faults-begin}
+use Rattle.integ_block.proofs.KindLemmas.{kept}
 use Rattle.gds_law.proofs.SinkLemmas.{Reached-front, IsCut-none, Grew-ok, Grew-err, WasTold-ok, WasTold-refused}
 use Rattle.std.proofs.lemmas.Result.{err_from_is_err_and}
 use Rattle.gds_law.specs.Sink.{IsCut}

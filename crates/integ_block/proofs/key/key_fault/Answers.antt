@@ -1,6 +1,6 @@
 use Rattle.std.proofs.Common.{sym, ap, ◌∙◌, arith}
 use Rattle.m_key.specs.Node.{is_name}
-use Rattle.gds_law.proofs.KeyLaws.{bad_name, too_many, by_parts}
+use Rattle.gds_law.proofs.KeyLemmas.{bad_name, too_many, by_parts}
 use Rattle.integ_block.proofs.key.key_fault.Goals as goal
 
 pub returns-then-not-is_name : goal.returns-then-not-is_name

@@ -1,7 +1,7 @@
 use Rattle.std.proofs.Common.{◌∙◌, sym, ap}
 use Rattle.integ_block.specs.Entry.{seen, IsKeyed, IsStar}
 use Rattle.integ_block.specs.BlockReading.{reading}
-use Rattle.integ_block.proofs.TargetLaws.{to, inner, target-root, target-keyed, target-last}
+use Rattle.integ_block.proofs.TargetLemmas.{to, inner, target-root, target-keyed, target-last}
 use Rattle.integ_block.proofs.entry.Entry.child_at.Goals as goal
 
 pub returns-in-Some : goal.returns-in-Some

@@ -8,7 +8,7 @@ use Rattle.gds_law.specs.declared.sink.SinkTrouble.TheVariants.{Failed}
 use Rattle.gds_law.proofs.SinkLemmas.{Reached, Reached-more, WasTold-refused}
 use Rattle.integ_block.specs.BlockReading.{reading, faults_at}
 use Rattle.integ_block.specs.Entry.{seen}
-use Rattle.integ_block.proofs.KindLaws.{found-yes, found-not}
+use Rattle.integ_block.proofs.KindLemmas.{found-yes, found-not}
 use Rattle.integ_block.proofs.entry.Entry.tell.Goals as goal
 use Rattle.integ_block.proofs.entry.Entry.tell.Goals.{then-holds+in_ok-tell, else-holds}
 

@@ -9,8 +9,8 @@ use Rattle.gds_law.proofs.SinkLemmas.{IsCut-all, IsCut-none, IsCut-stop, Reached
 use Rattle.std.proofs.lemmas.Result.{err_from_is_err_and}
 use Rattle.gds_law.specs.Record.{holds}
 use Rattle.gds_law.specs.declared.sink.SinkTrouble.TheVariants.{Failed}
-use Rattle.integ_block.proofs.EntryLaws.{entry_kinds}
-use Rattle.integ_block.proofs.ReadLaws.{kinds_of-read, Leaves-read, children-read}
+use Rattle.integ_block.proofs.EntryLemmas.{entry_kinds}
+use Rattle.integ_block.proofs.ReadLemmas.{kinds_of-read, Leaves-read, children-read}
 use Rattle.integ_block.proofs.entry.Entry.tell_all.Given.{Over}
 use Rattle.integ_block.proofs.entry.Entry.tell_all.Goals as goal
 use Rattle.integ_block.proofs.entry.Entry.tell_all.Goals.{After-tell, in-Some+in_ok-push, in_default}

@@ -8,7 +8,7 @@ use Rattle.integ_block.specs.BlockReading.{reading, faults_at}
 use Rattle.std.proofs.lemmas.Result.{err_from_is_err_and}
 use Rattle.gds_law.specs.declared.sink.SinkTrouble.TheVariants.{Failed}
 use Rattle.gds_law.proofs.SinkLemmas.{Reached, Reached-more, WasTold-refused}
-use Rattle.integ_block.proofs.KindLaws.{kept, left-not, left-yes, left-first}
+use Rattle.integ_block.proofs.KindLemmas.{kept, left-not, left-yes, left-first}
 use Rattle.integ_block.proofs.reading.BlockReading.tell_head.Goals as goal
 use Rattle.integ_block.proofs.reading.BlockReading.tell_head.Goals.{then-head_holds+in_ok-tell+else-ends, else-head_holds}
 

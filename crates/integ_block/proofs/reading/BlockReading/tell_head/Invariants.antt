@@ -4,7 +4,7 @@ use Rattle.gds_law.specs.Block.{head_holds}
 use Rattle.gds_law.specs.Kinds.{ends}
 use Rattle.integ_block.specs.BlockReading.{reading, faults_at}
 use Rattle.gds_law.proofs.SinkLemmas.{Reached}
-use Rattle.integ_block.proofs.KindLaws.{kept}
+use Rattle.integ_block.proofs.KindLemmas.{kept}
 use Rattle.integ_block.proofs.reading.BlockReading.tell_head.Given as goal
 
 -- what of the kinds is left to be told

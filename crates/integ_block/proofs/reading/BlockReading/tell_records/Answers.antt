@@ -15,7 +15,7 @@ use Rattle.integ_block.specs.Child.{child_of}
 use Rattle.gds_law.proofs.SinkLemmas.{Reached, Reached-more, Reached-all, IsCut-more, IsCut-stop, Grew-ok, Grew-err, WasTold-ok, WasTold-refused}
 use Rattle.std.proofs.lemmas.Result.{err_from_is_err_and}
 use Rattle.gds_law.specs.declared.sink.SinkTrouble.TheVariants.{Failed}
-use Rattle.integ_block.proofs.BlockLaws.{behind, length-faults, told-behind, told-next, told-stop, children-next, children-stop, children-behind, more_children, AreRecords-next}
+use Rattle.integ_block.proofs.BlockLemmas.{behind, length-faults, told-behind, told-next, told-stop, children-next, children-stop, children-behind, more_children, AreRecords-next}
 use Rattle.integ_block.proofs.reading.BlockReading.tell_records.Given.{Over}
 use Rattle.integ_block.proofs.reading.BlockReading.tell_records.Goals as goal
 use Rattle.integ_block.proofs.reading.BlockReading.tell_records.Goals.{After-tell_all, After-tell_size}

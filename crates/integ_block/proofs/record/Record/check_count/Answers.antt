@@ -5,7 +5,7 @@ use Rattle.gds_law.specs.Record.{keyed_holds}
 use Rattle.gds_law.specs.declared.kind.FaultKind.TheVariants.{FirstCount, CountTooLarge}
 use Rattle.integ_block.specs.Entry.{seen}
 use Rattle.integ_block.specs.BlockReading.{reading}
-use Rattle.integ_block.proofs.EntryLaws.{kinds_of-first, kinds_of-later}
+use Rattle.integ_block.proofs.EntryLemmas.{kinds_of-first, kinds_of-later}
 use Rattle.integ_block.proofs.record.Record.check_count.Goals as goal
 
 pub returns-then-self-gt0-clause-err : goal.returns-then-self-gt0-clause-err

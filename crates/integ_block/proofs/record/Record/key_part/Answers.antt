@@ -3,8 +3,8 @@ use Rattle.m_key.specs.KeyEnd.{end_in}
 use Rattle.gds_law.specs.BlockReading.{key_end}
 use Rattle.integ_block.specs.Entry.{seen}
 use Rattle.integ_block.specs.BlockReading.{reading}
-use Rattle.integ_block.proofs.EntryLaws.{kinds_of-long, kinds_of-end}
-use Rattle.integ_block.proofs.KeyEnds.{IsKeyPart-found, key_end-none, key_end-late, too_long, not_too_long, without_end}
+use Rattle.integ_block.proofs.EntryLemmas.{kinds_of-long, kinds_of-end}
+use Rattle.integ_block.proofs.KeyEndLemmas.{IsKeyPart-found, key_end-none, key_end-late, too_long, not_too_long, without_end}
 use Rattle.integ_block.proofs.record.Record.key_part.Goals as goal
 use Rattle.integ_block.proofs.record.Record.key_part.Goals.{In_default, in_default-via-in-Some+else-count-len, in_default-via-in_default}
 

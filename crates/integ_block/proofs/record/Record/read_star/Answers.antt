@@ -5,7 +5,7 @@ use Rattle.gds_law.specs.Record.{last_holds}
 use Rattle.gds_law.specs.declared.kind.FaultKind.TheVariants.{StarSize}
 use Rattle.integ_block.specs.Entry.{seen}
 use Rattle.integ_block.specs.BlockReading.{reading}
-use Rattle.integ_block.proofs.EntryLaws.{kinds_of-star}
+use Rattle.integ_block.proofs.EntryLemmas.{kinds_of-star}
 use Rattle.integ_block.proofs.record.Record.read_star.Goals as goal
 
 pub returns-then-self-ne4-clause-err : goal.returns-then-self-ne4-clause-err

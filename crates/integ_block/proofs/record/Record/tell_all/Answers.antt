@@ -6,7 +6,7 @@ use Rattle.integ_block.specs.BlockReading.{reading}
 use Rattle.integ_block.specs.Child.{child_of}
 use Rattle.gds_law.proofs.SinkLemmas.{Grew-ok, Grew-err, IsCut-none}
 use Rattle.std.proofs.lemmas.Result.{err_from_is_err_and}
-use Rattle.integ_block.proofs.ReadLaws.{Leaves-ended, children-ended}
+use Rattle.integ_block.proofs.ReadLemmas.{Leaves-ended, children-ended}
 use Rattle.integ_block.proofs.record.Record.tell_all.Goals as goal
 
 pub returns-in_ok-tell-in-Err-clause-children : goal.returns-in_ok-tell-in-Err-clause-children
