@@ -28,7 +28,8 @@ not_built = record { text = line (codes "NOTBUILT"); status = ended.NotBuilt }
 
 -- The header kind that ends the reading is the one fault that is told. A header without one isn't read on yet.
 abbrev pub header_reply : Option HeaderKind → Reply
-header_reply (Some kind) = record { text = line (name_of kind ++ codes " file") ++ line (codes "FAULTS 1"); status = ended.Unsound }
+header_reply (Some kind) =
+    record { text = line (name_of kind ++ codes " file") ++ line (codes "FAULTS 1"); status = ended.Unsound }
 header_reply None = not_built
 
 -- An extract says the text of the map that thin files stand for. For other files it isn't built.
@@ -45,7 +46,7 @@ Due (Ok Integ) c reply = reply ≡ header_reply (ending_kind c.db)
 Due (Ok (Extract stamp)) c reply = ExtractDue stamp.items c reply
 
 -- Which endings the words may have, whatever the device does. Only a database file that is read can meet
--- a read fault or change, and only a text that is put together wants memory.
+-- a failure or a change, and only a text that is put together wants memory.
 abbrev pub MayEnd : Result Command BadWords → Status → Type 0
 MayEnd command ended.SayFault = Unit {0}
 MayEnd (Err bad) ended.BadWords = Unit {0}
@@ -74,7 +75,7 @@ ReadsNoFile (Ok (Extract stamp)) = ⊥
 abbrev pub SaysFront : List ℕ → Contents → Contents → Type 0
 SaysFront text before after = (n : ℕ) × (after ≡ saying before (take n text))
 
--- a fault of the device, or want of memory
+-- a failure of the device, or want of memory
 abbrev pub is_break : Status → Bool
 is_break ended.Memory = true
 is_break ended.ReadFault = true
@@ -85,12 +86,15 @@ is_break other = false
 -- more is said than a front of the reply.
 abbrev pub Answers : Reply → Status → Contents → Contents → Type 0
 Answers reply status before after =
-    MatchBool (is_break status) (SaysFront reply.text before after) ((status ≡ reply.status) × (after ≡ saying before reply.text))
+    MatchBool (is_break status) (SaysFront reply.text before after)
+    ((status ≡ reply.status) × (after ≡ saying before reply.text))
 
--- How a call ends over a host that tells, where one of these replies is due: it is said, whole, and its status given. At
+-- How a call ends over a host that tells, where one of these replies is due: it is said, whole, and its status given.
+-- At
 -- a break some bytes were said, which are a front of the reply that is due. Both files stay.
 abbrev pub Ends : (Reply → Type 0) → Status → Contents → Contents → Type 0
 Ends due status before after =
     MatchBool (is_break status)
-    ((said : List ℕ) × (after ≡ saying before said) × ((reply : Reply) → due reply → (n : ℕ) × (said ≡ take n reply.text)))
+    ((said : List ℕ) × (after ≡ saying before said)
+    × ((reply : Reply) → due reply → (n : ℕ) × (said ≡ take n reply.text)))
     ((reply : Reply) × due reply × (status ≡ reply.status) × (after ≡ saying before reply.text))

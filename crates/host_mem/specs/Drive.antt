@@ -1,5 +1,6 @@
 -- One file on a disk: what a read gives, and what a crash may leave of it.
-use Rattle.std.specs.Prelude.{◌≡◌, ℕ, ◌+◌, ◌<◌, ◌≤◌, ◌%◌, ◌==◌, min, max, Bool, false, ◌&&◌, ◌||◌, if◌then◌else◌, List, [], ◌∷◌, ◌++◌, length, take, map, slice_index}
+use Rattle.std.specs.Prelude.{◌≡◌, ℕ, ◌+◌, ◌<◌, ◌≤◌, ◌%◌, ◌==◌, min, max, Bool, false, ◌&&◌, ◌||◌, if◌then◌else◌}
+use Rattle.std.specs.Prelude.{List, [], ◌∷◌, ◌++◌, length, take, map, slice_index}
 use Rattle.std.specs.List.{list_any, range_with_len}
 use Rattle.std.specs.Bool.{nat_le, nat_lt}
 use Rattle.host_model.specs.Disk.{written}
@@ -37,7 +38,8 @@ most drive = farthest (length drive.stable) drive.ranges
 pub record Leaves (drive : Drive) (bytes : List ℕ) : Type 0 where
   pub no_shorter : drive.least ≤ length bytes
   pub no_longer : length bytes ≤ most drive
-  pub stays : (i : ℕ) → i < drive.least → is_covered i drive.ranges ≡ false → slice_index bytes i ≡ slice_index drive.stable i
+  pub stays : (i : ℕ) → i < drive.least → is_covered i drive.ranges ≡ false
+      → slice_index bytes i ≡ slice_index drive.stable i
 
 -- A write. One that failed left what a read gives as it was; its range counts all the same.
 abbrev pub wrote : ℕ → List ℕ → Bool → Drive → Drive

@@ -1,6 +1,7 @@
-ghost use Rattle.std.specs.Prelude.{◌≡◌, ◌-◌, ◌≤◌, ◌++◌, min, length, take, drop, None, Some, is_ok, if◌then◌else◌, IsTrue, IfOk, OnOk, OnErr};
+ghost use Rattle.std.specs.Prelude.{◌≡◌, ◌-◌, ◌<◌, ◌≤◌, ◌++◌, min, length, take, drop, All, None, Some, is_ok};
+ghost use Rattle.std.specs.Prelude.{if◌then◌else◌, IsTrue, IfOk, OnOk, OnErr};
 ghost use Rattle.host_model.specs.Failures.{NeverFell, counted};
-ghost use Rattle.host_model.specs.Files.{file_of, saying};
+ghost use Rattle.host_model.specs.Files.{AreBytes, file_of, saying};
 ghost use Rattle.host_model.specs.Disk.{written};
 ghost use Rattle.host_mem.specs.History.{start};
 ghost use Rattle.host_mem.specs.Inside.{held, seen};
@@ -25,19 +26,22 @@ pub(crate) struct Parts {
     pub(crate) said: Stored,
     pub(crate) log: Log,
     pub(crate) alloc: Global,
-    pub(crate) read_faults: u64,
-    pub(crate) write_faults: u64,
-    pub(crate) say_faults: u64,
+    pub(crate) read_failures: u64,
+    pub(crate) write_failures: u64,
+    pub(crate) say_failures: u64,
     pub(crate) reads: u64,
 }
 
 impl Parts {
     pub(crate) fn len(&mut self, file: FileNo, listed: bool) -> Result<u64, HostFailed>
         ensures length { IfOk result (λ n. n ≡ length (file_of (held self.old) file)) }
+        ensures bytes { AreBytes (held self.old) }
         ensures held { held self.new ≡ held self.old }
         ensures failures { NeverFell (seen self.old).failures (seen self.new).failures }
-        ensures called { Called (IsTrue listed) (Call.Len (counted self.old.log.moment) file) None result (seen self.old) (seen self.new) }
+        ensures called { Called (IsTrue listed) (Call.Len (counted self.old.log.moment) file) None result
+            (seen self.old) (seen self.new) }
     {
+        self.hold_bytes();
         let number = self.log.next();
         self.look(Call::Len { number, file }, listed)?;
         Ok(self.bytes(file).len() as u64)
@@ -55,7 +59,8 @@ impl Parts {
         ensures unread { OnErr result (out.new ≡ out.old) }
         ensures held { held self.new ≡ held self.old }
         ensures failures { NeverFell (seen self.old).failures (seen self.new).failures }
-        ensures called { Called (IsTrue listed) (Call.Read (counted self.old.log.moment) file at (length out.old)) None result (seen self.old) (seen self.new) }
+        ensures called { Called (IsTrue listed) (Call.Read (counted self.old.log.moment) file at (length out.old))
+            None result (seen self.old) (seen self.new) }
     {
         let number = self.log.next();
         let len = out.len();
@@ -80,10 +85,13 @@ impl Parts {
         listed: bool,
     ) -> Result<(), HostFailed>
         requires { at ≤ length (file_of (held self.old) file) }
-        ensures held { held self.new ≡ (if is_ok result then with_file file (written at bytes.now (file_of (held self.old) file)) (held self.old) else held self.old) }
+        ensures held { held self.new ≡ (if is_ok result
+            then with_file file (written at bytes.now (file_of (held self.old) file)) (held self.old)
+            else held self.old) }
         ensures failures { NeverFell (seen self.old).failures (seen self.new).failures }
         ensures called { Called (IsTrue listed) (Call.Write (counted self.old.log.moment) file at (length bytes.now))
-            (Some (Write (counted self.old.log.moment) file at bytes.now (is_ok result))) result (seen self.old) (seen self.new) }
+            (Some (Write (counted self.old.log.moment) file at bytes.now (is_ok result))) result (seen self.old)
+            (seen self.new) }
     {
         let result = match file {
             FileNo::Db => write(
@@ -106,14 +114,16 @@ impl Parts {
             ),
         };
         if result.is_err() {
-            self.write_faults = self.write_faults.saturating_add(1);
+            self.write_failures = self.write_failures.saturating_add(1);
         }
         result
     }
 
     pub(crate) fn cut(&mut self, file: FileNo, len: u64, listed: bool) -> Result<(), HostFailed>
         requires { len ≤ length (file_of (held self.old) file) }
-        ensures held { held self.new ≡ (if is_ok result then with_file file (take len (file_of (held self.old) file)) (held self.old) else held self.old) }
+        ensures held { held self.new ≡ (if is_ok result
+            then with_file file (take len (file_of (held self.old) file)) (held self.old)
+            else held self.old) }
         ensures failures { NeverFell (seen self.old).failures (seen self.new).failures }
         ensures called { Called (IsTrue listed) (Call.Cut (counted self.old.log.moment) file len)
             (Some (Cut (counted self.old.log.moment) file len (is_ok result))) result (seen self.old) (seen self.new) }
@@ -130,7 +140,7 @@ impl Parts {
             ),
         };
         if result.is_err() {
-            self.write_faults = self.write_faults.saturating_add(1);
+            self.write_failures = self.write_failures.saturating_add(1);
         }
         result
     }
@@ -143,7 +153,7 @@ impl Parts {
     {
         let result = sync(&mut self.log, file, listed);
         if result.is_err() {
-            self.write_faults = self.write_faults.saturating_add(1);
+            self.write_failures = self.write_failures.saturating_add(1);
         }
         result
     }
@@ -156,7 +166,7 @@ impl Parts {
     {
         let result = say(&mut self.said, &mut self.log, self.alloc, bytes, listed);
         if result.is_err() {
-            self.say_faults = self.say_faults.saturating_add(1);
+            self.say_failures = self.say_failures.saturating_add(1);
         }
         result
     }
@@ -169,10 +179,11 @@ impl Parts {
         ensures reads { self.new.reads ≡ self.old.reads }
         ensures first { (seen self.new).first ≡ (seen self.old).first }
         ensures log { Logged (IsTrue listed) call None result self.old.log self.new.log }
-        ensures counts { (seen self.new).failures ≡ (if is_ok result then (seen self.old).failures else failed_by call (seen self.old).failures) }
+        ensures counts { (seen self.new).failures ≡
+            (if is_ok result then (seen self.old).failures else failed_by call (seen self.old).failures) }
     {
         if self.log.admit(call).is_err() || listed {
-            self.read_faults = self.read_faults.saturating_add(1);
+            self.read_failures = self.read_failures.saturating_add(1);
             return Err(HostFailed);
         }
         Ok(())
@@ -189,6 +200,14 @@ impl Parts {
         })
     }
 
+    /// Does nothing: what both files hold are bytes.
+    fn hold_bytes(&self)
+        ensures { AreBytes (held self.now) }
+    {
+        are_bytes(self.db.bytes.as_slice());
+        are_bytes(self.images.bytes.as_slice());
+    }
+
     pub(crate) fn bytes(&self, file: FileNo) -> &[u8]
         ensures { result.now ≡ file_of (held self.now) file }
     {
@@ -198,6 +217,11 @@ impl Parts {
         }
     }
 }
+
+/// Does nothing: each item of a slice of bytes is below 256.
+fn are_bytes(bytes: &[u8])
+    ensures { All (λ b. b < 256) bytes.now }
+{}
 
 /// Puts what the file has from `at` on at the front of `out`, and answers how many bytes those are.
 fn fill(file: &[u8], at: u64, out: &mut [u8]) -> usize

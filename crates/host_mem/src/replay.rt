@@ -1,6 +1,7 @@
 ghost use Rattle.std.specs.Prelude.{◌≡◌, ◌++◌, length, map, slice_index, IsTrue, if◌then◌else◌, IfOk, OnOk};
 ghost use Rattle.host_model.specs.Disk.{written};
-ghost use Rattle.host_mem.specs.Drive.{crashed, is_covered, is_loose, is_within, scribbled, settled, shortened, synced, wrote};
+ghost use Rattle.host_mem.specs.Drive.{crashed, is_covered, is_loose, is_within, scribbled, settled, shortened};
+ghost use Rattle.host_mem.specs.Drive.{synced, wrote};
 ghost use Rattle.host_mem.specs.Entries.{step_of};
 ghost use Rattle.host_mem.specs.History.{apply, replayed};
 ghost use Rattle.host_mem.specs.Replay.{drive_seen, state_seen};
@@ -9,7 +10,8 @@ use super::step::{Entry, Range};
 use host_model::FileNo;
 use std::alloc::{AllocError, Global};
 
-/// One file on its disk: what a read gives, what the last sync left, the least length since, and the ranges written since.
+/// One file on its disk: what a read gives, what the last sync left, the least length since, and the ranges written
+/// since.
 #[derive(Drop)]
 pub(crate) struct Disk {
     pub(crate) bytes: Vec<u8>,

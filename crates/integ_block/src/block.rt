@@ -11,7 +11,7 @@ use crate::Child;
 use crate::entry::Step;
 use crate::reading::BlockReading;
 use crate::record::{FIRST, Record};
-use gds_block::{BlockView, u16_at};
+use gds_block::{BlockView, least_size, u16_at};
 use gds_law::{FaultKind, FaultSink, SinkTrouble};
 use m_key::Key;
 
@@ -29,7 +29,6 @@ impl BlockReading<'_> {
         requires is_block { IsBlock bytes.now }
         requires level { self.now.level ≡ level_of bytes.now }
         requires used { self.now.used ≡ used_of bytes.now }
-        requires key_max { self.now.header.now.key_max ≤ 255 }
         ensures told { let b = reading self.now in WasTold F.listed F.failures sink.old sink.new
             (map (fault_at b self.now.at.now.path) (kinds_from b bytes.now 16 [] (records_of bytes.now)))
             result SinkTrouble.Failed }
@@ -45,7 +44,7 @@ impl BlockReading<'_> {
         for view in block.records() {
             let record = Record {
                 reading: *self,
-                previous: previous.as_slice(),
+                previous: &previous,
                 view,
             };
             let Step { count: told, key } = record.tell_all(sink, children)?;
@@ -92,10 +91,9 @@ impl BlockReading<'_> {
 fn size_kind(level: u8, left: &[u8]) -> Option<FaultKind>
     ensures { option_to_list result ≡ size_kinds level left.now }
 {
-    let least = if level == 0 { 5 } else { 8 };
     if left.is_empty() {
         None
-    } else if left.len() < 4 || u16_at(left, 0) < least {
+    } else if left.len() < 4 || u16_at(left, 0) < least_size(level) {
         Some(FaultKind::RecordTooSmall)
     } else if left.len() < u16_at(left, 0) as usize {
         Some(FaultKind::RecordTooLarge)

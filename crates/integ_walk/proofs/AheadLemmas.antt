@@ -3,7 +3,7 @@ use Rattle.std.proofs.Common.{◌≡◌, ℕ, ◌<◌, List, [], ◌∷◌, ◌+
 use Rattle.std.specs.Ordering.{ordering_then}
 use Rattle.std.proofs.lemmas.Cmp.{tied_itself}
 use Rattle.std.proofs.lemmas.List.{append-nil}
-use Rattle.m_key.proofs.ZeroLemmas.{nat_cmp_less}
+use Rattle.m_number.proofs.OrderingLemmas.{nat_cmp_less}
 use Rattle.gds_law.specs.Path.{Steps, step_cmp, path_cmp}
 use Rattle.gds_law.proofs.PathLemmas.{step_total}
 use Rattle.integ_walk.specs.Progress.{IsAhead}

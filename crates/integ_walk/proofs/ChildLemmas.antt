@@ -16,7 +16,7 @@ use Rattle.gds_law.specs.Record.{holds, kinds_of, is_ended, child_to, is_sound, 
 use Rattle.gds_law.specs.Block.{head_holds, kinds_of_head, size_kinds, kinds_from, kinds_of_block, faults_of_block, fault_at, children_from, children_of}
 use Rattle.gds_law.specs.declared.kind.FaultKind.{FaultKind}
 use Rattle.gds_law.specs.declared.kind.FaultKind.TheVariants.{RecordTooSmall, RecordTooLarge}
-use Rattle.gds_law.proofs.Membership.{IsIn, in_either}
+use Rattle.gds_law.proofs.MembershipLemmas.{IsIn, in_either}
 
 abbrev placed : List ℕ → Record → PlacedRecord
 placed previous r = record { previous = previous; record_ = r }

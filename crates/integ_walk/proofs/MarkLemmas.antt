@@ -10,8 +10,8 @@ use Rattle.gds_law.specs.Visit.{Visit}
 use Rattle.gds_law.specs.Block.{faults_of_block}
 use Rattle.gds_law.specs.Path.{Steps, visit_at, path_cmp, IsTakenBefore, AreKept, AreReached}
 use Rattle.gds_law.specs.Tree.{double_at, double_faults, faults_at, is_among, ends_in, is_reached}
-use Rattle.gds_law.proofs.Membership.{IsIn, in_from_Contains, Contains-from_in, in_left, in_right, in_either}
-use Rattle.gds_law.proofs.SoundKept.{any_in, in_any, same_tests, kept_leads, among_from, from_among, at_kept}
+use Rattle.gds_law.proofs.MembershipLemmas.{IsIn, in_from_Contains, Contains-from_in, in_left, in_right, in_either}
+use Rattle.gds_sound.proofs.KeptLemmas.{any_in, in_any, same_tests, kept_leads, among_from, from_among, at_kept}
 use Rattle.integ_walk.specs.Link.{Link, path_to}
 use Rattle.integ_walk.specs.Progress.{EndsIn}
 use Rattle.integ_walk.proofs.WalkLemmas.{IsAt, front-step, kept_reached, before_next, sooner_done, nothing_below}

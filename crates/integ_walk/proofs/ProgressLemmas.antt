@@ -9,7 +9,7 @@ use Rattle.gds_law.specs.Visit.{Visit, Child, directory_root}
 use Rattle.gds_law.specs.Block.{faults_of_block}
 use Rattle.gds_law.specs.Path.{Steps, children_at, visit_at, AreKept, AreReached}
 use Rattle.gds_law.specs.Tree.{faults_at, tree_faults, is_reached}
-use Rattle.gds_law.proofs.Membership.{IsIn, in_from_Contains, Contains-from_in, in_either}
+use Rattle.gds_law.proofs.MembershipLemmas.{IsIn, in_from_Contains, Contains-from_in, in_either}
 use Rattle.integ_walk.specs.Link.{Link, path_to, links_at, double_of}
 use Rattle.integ_walk.specs.Progress.{GoesOn, IsAhead, AreInOrder, IsLinkTo, HasCome}
 use Rattle.integ_walk.proofs.WalkLemmas.{AllAhead, Walked, IsAt, from_map, at_next, at_root, walked_past, walked_into, walked_all}

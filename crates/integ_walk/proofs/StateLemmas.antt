@@ -14,7 +14,7 @@ use Rattle.gds_law.specs.Path.{Steps, children_at, AreKept, AreReached}
 use Rattle.gds_law.specs.Rank.{rank}
 use Rattle.gds_law.specs.Sink.{IsCut}
 use Rattle.gds_law.specs.Tree.{tree_faults, is_reached}
-use Rattle.gds_law.proofs.Membership.{IsIn, in_from_Contains, Contains-from_in, in_either}
+use Rattle.gds_law.proofs.MembershipLemmas.{IsIn, in_from_Contains, Contains-from_in, in_either}
 use Rattle.gds_law.proofs.RankLemmas.{falls}
 use Rattle.gds_law.proofs.SinkLemmas.{IsCut-behind, IsCut-front, IsCut-all}
 use Rattle.integ_walk.specs.BlockSet.{has_block, free_below}

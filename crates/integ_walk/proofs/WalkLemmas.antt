@@ -8,13 +8,13 @@ use Rattle.gds_block.specs.Block.{level_of}
 use Rattle.gds_header.specs.Fields.{block_of}
 use Rattle.gds_law.specs.Visit.{Visit, Child, directory_root}
 use Rattle.gds_law.specs.Path.{Steps, children_at, child_at, visit_from, visit_at, path_cmp, front_of, ExtendsKept, AreKept, AreReached}
-use Rattle.gds_law.proofs.Membership.{IsIn, in_from_Contains, Contains-from_in, in_left, in_right, in_either, in_map}
-use Rattle.gds_law.proofs.Rising.{Rising, Rising-from_sorted, rises, Rising-behind, not_below_itself, not_both_below}
+use Rattle.gds_law.proofs.MembershipLemmas.{IsIn, in_from_Contains, Contains-from_in, in_left, in_right, in_either, in_map}
+use Rattle.gds_law.proofs.RisingLemmas.{Rising, Rising-from_sorted, rises, Rising-behind, not_below_itself, not_both_below}
 use Rattle.gds_law.proofs.PathLemmas.{path_total, path_exact, some_if, some_then}
-use Rattle.gds_law.proofs.SoundBlocks.{RisingFrom, children_apart, above}
-use Rattle.gds_law.proofs.SoundTrees.{leads_through}
-use Rattle.gds_law.proofs.SoundPaths.{step_leads}
-use Rattle.gds_law.proofs.SoundKept.{reached_leads}
+use Rattle.gds_sound.proofs.BlockLemmas.{RisingFrom, children_apart, above}
+use Rattle.gds_sound.proofs.TreeLemmas.{leads_through}
+use Rattle.gds_sound.proofs.PathLemmas.{step_leads}
+use Rattle.gds_sound.proofs.KeptLemmas.{reached_leads}
 use Rattle.integ_walk.specs.Link.{Link, path_to, links_at}
 use Rattle.integ_walk.specs.Progress.{GoesOn, IsAhead}
 use Rattle.integ_walk.proofs.AheadLemmas.{ahead_at, ahead_longer, ahead_below, below_longer}

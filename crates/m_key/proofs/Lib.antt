@@ -1,9 +1,11 @@
 pub mod ZeroLemmas
 pub mod EscapeLemmas
 pub mod KeyLemmas
-pub mod Numbers
+pub mod NumberLemmas
 pub mod FillLemmas
 pub mod ReadingLemmas
 pub mod PlaceLemmas
 pub mod CollationLemmas
 pub mod KeyEndLemmas
+pub mod KeyPartLemmas
+pub mod UnescapeLemmas

@@ -1,6 +1,6 @@
 use Rattle.std.proofs.Common.{◌≡◌, ◌≤◌, sym, ap, ◌∙◌, arith}
 use Rattle.gds_header.specs.declared.header.Header.{Header}
-use Rattle.gds_law.proofs.PathLaws.{some_kept, some_reached}
+use Rattle.gds_law.proofs.KeptLemmas.{some_kept, some_reached}
 use Rattle.gds_law.proofs.SinkLemmas.{OnErr-any}
 use Rattle.integ_walk.specs.BlockSet.{has_block}
 use Rattle.integ_walk.specs.Frame.{state_of}
