@@ -1,4 +1,5 @@
-ghost use Rattle.std.specs.Prelude.{◌≡◌, ◌≤◌, ◌<◌, ◌+◌, ◌⊎◌, ℕ, List, [], ◌∷◌, ◌++◌, ◌==◌, true, false, not, length, drop, count_by, option_map};
+ghost use Rattle.std.specs.Prelude.{◌≡◌, ◌≤◌, ◌<◌, ◌+◌, ◌⊎◌, ◌==◌, ℕ, List, [], ◌∷◌, ◌++◌, true, false, not, length};
+ghost use Rattle.std.specs.Prelude.{drop, count_by, option_map};
 ghost use Rattle.std.specs.Bool.{OnTrue};
 ghost use Rattle.gds_block.specs.Record.{records_of};
 ghost use Rattle.m_key.specs.Node.{is_name};
