@@ -68,22 +68,17 @@ fn reads_no_reference_from_other_bytes(rt: HostRuntime) -> Result<(), Fail> {
 
 #[test]
 fn orders_references(rt: HostRuntime) -> Result<(), Fail> {
-    let rising: [(&[u8], &[&[u8]]); 9] = [
-        (b"A", &[]),
-        (b"A", &[b"-10.1"]),
-        (b"A", &[b"-10"]),
-        (b"A", &[b"0"]),
-        (b"A", &[b"1"]),
-        (b"A", &[b"10"]),
-        (b"A", &[b"01"]),
-        (b"A", &[b"01", b"1"]),
-        (b"AB", &[]),
-    ];
-    for (i, (name, texts)) in rising.into_iter().enumerate() {
-        let a = reference(rt.alloc(), name, texts)?;
-        for (j, (name, texts)) in rising.into_iter().enumerate() {
-            let b = reference(rt.alloc(), name, texts)?;
-            assert_eq!(rt; compare(&a, &b), i.cmp(&j), "{i} and {j}");
+    let texts: [&[u8]; 6] = [b"-10.1", b"-10", b"0", b"1", b"10", b"01"];
+    let mut rising = Vec::new(rt.alloc());
+    rising.push(reference(rt.alloc(), b"A", &[])?)?;
+    for text in texts {
+        rising.push(reference(rt.alloc(), b"A", &[text])?)?;
+    }
+    rising.push(reference(rt.alloc(), b"A", &[b"01", b"1"])?)?;
+    rising.push(reference(rt.alloc(), b"AB", &[])?)?;
+    for (i, a) in rising.iter().enumerate() {
+        for (j, b) in rising.iter().enumerate() {
+            assert_eq!(rt; compare(a, b), i.cmp(&j), "{i} and {j}");
         }
     }
     Ok(())
