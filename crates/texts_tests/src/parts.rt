@@ -2,6 +2,7 @@ use m_key::{
     end_in, ends_in_zero, has_subscripts, is_escaped_text, join_key, key_from, name_part,
     shared_len, subscript_count, subscript_parts,
 };
+use std::test::Fail;
 
 #[test]
 fn takes_keys_apart(rt: HostRuntime) -> Result<(), Fail> {
