@@ -1,22 +1,21 @@
-use super::place::read_full;
-use super::*;
+use host_file::{FileHost, StdinSource, read_full};
 use host_model::{FileNo, Host, HostFailed, Source};
 use std::alloc::Allocator;
 use std::io::{BufRead, ErrorKind, Lines, Read};
 use std::test::Fail;
 use std::{env, fs, io, process};
 
-/// A path in the directory of temporary files that no other process uses.
-fn own_path(rt: &HostRuntime) -> Result<String, Fail> {
+/// A path in the directory of temporary files that no other process uses, and no other test.
+fn own_path(rt: &HostRuntime, test: &str) -> Result<String, Fail> {
     let dir = env::temp_dir(rt)?;
     let dir = dir.display();
     let process = process::id(rt.process());
-    Ok(format!(in rt.alloc(); "{dir}/host_file.{process}")?)
+    Ok(format!(in rt.alloc(); "{dir}/host_file.{process}.{test}")?)
 }
 
 #[test]
 fn reads_files(rt: HostRuntime) -> Result<(), Fail> {
-    let path = own_path(&rt)?;
+    let path = own_path(&rt, "reads")?;
     fs::write(&rt, path.as_str(), b"0123456789".as_slice())?;
     let mut host = FileHost::new(&rt, rt.alloc(), path.as_str())?;
     let mut out = [b'.'; 4];
@@ -39,9 +38,8 @@ fn reads_files(rt: HostRuntime) -> Result<(), Fail> {
 }
 
 #[test]
-fn writes_files(rt: HostRuntime) -> Result<(), Fail> {
-    let path = own_path(&rt)?;
-    let path = format!(in rt.alloc(); "{path}.new")?;
+fn writes_a_file(rt: HostRuntime) -> Result<(), Fail> {
+    let path = own_path(&rt, "writes")?;
     let mut host = FileHost::new(&rt, rt.alloc(), path.as_str())?;
     let mut out = [b'.'; 8];
     let missing = (host.sync(FileNo::Db), host.cut(FileNo::Db, 0));
@@ -60,6 +58,57 @@ fn writes_files(rt: HostRuntime) -> Result<(), Fail> {
     assert_eq!(rt; length, Ok(7));
     assert_eq!(rt; read, Ok(7));
     assert_eq!(rt; out, *b"01234ab.");
+    Ok(())
+}
+
+/// Writes into a file of six bytes, cuts it to four, syncs it and reads it back.
+fn change(
+    host: &mut FileHost<'_, HostRuntime>,
+    file: FileNo,
+    out: &mut [u8],
+) -> Result<usize, HostFailed> {
+    host.write_at(file, 1, b"XY")?;
+    host.cut(file, 4)?;
+    host.sync(file)?;
+    host.read(file, 0, out)
+}
+
+/// What each call does to the file that it names, in the files of the system, and that the other file stays.
+#[test]
+fn changes_the_file_that_is_named(rt: HostRuntime) -> Result<(), Fail> {
+    let path = own_path(&rt, "both")?;
+    let images = format!(in rt.alloc(); "{path}.bi")?;
+    let rows: [(&str, FileNo, &[u8], &[u8], &[u8]); 2] = [
+        (
+            "the file of blocks",
+            FileNo::Db,
+            b"bXYc",
+            b"bXYc",
+            b"images",
+        ),
+        (
+            "the file of images",
+            FileNo::Images,
+            b"iXYg",
+            b"blocks",
+            b"iXYg",
+        ),
+    ];
+    for (label, file, want, blocks_after, images_after) in rows {
+        fs::write(&rt, path.as_str(), b"blocks".as_slice())?;
+        fs::write(&rt, images.as_str(), b"images".as_slice())?;
+        let mut host = FileHost::new(&rt, rt.alloc(), path.as_str())?;
+        let mut out = [b'.'; 4];
+        let read = change(&mut host, file, &mut out);
+        let blocks_left = fs::read(&rt, path.as_str())?;
+        let images_left = fs::read(&rt, images.as_str())?;
+        fs::remove_file(&rt, path.as_str())?;
+        fs::remove_file(&rt, images.as_str())?;
+        assert_eq!(rt; read, Ok(4), "{label}");
+        assert_eq!(rt; out.as_slice(), want, "{label}");
+        assert_eq!(rt; blocks_left.as_slice(), blocks_after, "{label}");
+        assert_eq!(rt; images_left.as_slice(), images_after, "{label}");
+    }
     Ok(())
 }
 

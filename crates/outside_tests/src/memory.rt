@@ -1,4 +1,4 @@
-use super::*;
+use host_mem::{Call, MemHost, MemSource, SureHost};
 use host_model::{FileNo, Host, HostFailed, Source, SourceFailed};
 use std::alloc::{AllocError, Global};
 use std::test::Fail;
@@ -11,22 +11,6 @@ fn host(alloc: Global, failing: &[u64]) -> Result<MemHost, AllocError> {
     let db = DB.to_vec(alloc)?;
     let images = IMAGES.to_vec(alloc)?;
     Ok(MemHost::new(alloc, db, images, failing.to_vec(alloc)?))
-}
-
-/// Writes where the file is long enough, which takes two calls.
-fn write(host: &mut MemHost, file: FileNo, at: u64, bytes: &[u8]) -> Result<(), HostFailed> {
-    if host.len(file)? < at {
-        return Err(HostFailed);
-    }
-    host.write_at(file, at, bytes)
-}
-
-/// Cuts where the file is long enough, which takes two calls.
-fn cut(host: &mut MemHost, file: FileNo, len: u64) -> Result<(), HostFailed> {
-    if host.len(file)? < len {
-        return Err(HostFailed);
-    }
-    host.cut(file, len)
 }
 
 #[test]
@@ -78,17 +62,17 @@ fn surely_tells_all(rt: HostRuntime) -> Result<(), Fail> {
 #[test]
 fn reads_to_the_end(rt: HostRuntime) -> Result<(), Fail> {
     let mut host = host(rt.alloc(), &[])?;
-    for (at, want) in [
-        (0, 4),
-        (2, 4),
-        (3, 3),
-        (5, 1),
-        (6, 0),
-        (7, 0),
-        (u64::MAX, 0),
+    for (label, at, want) in [
+        ("at the start", 0, 4),
+        ("all but the first", 2, 4),
+        ("one less than asked for", 3, 3),
+        ("the last byte", 5, 1),
+        ("at the end", 6, 0),
+        ("past the end", 7, 0),
+        ("as far as can be", u64::MAX, 0),
     ] {
         let mut out = [b'.'; 4];
-        assert_eq!(rt; host.read(FileNo::Db, at, &mut out), Ok(want), "at {at}");
+        assert_eq!(rt; host.read(FileNo::Db, at, &mut out), Ok(want), "{label}");
     }
     Ok(())
 }
@@ -111,6 +95,21 @@ fn fails_the_listed_calls(rt: HostRuntime) -> Result<(), Fail> {
 }
 
 #[test]
+fn burns_a_fuse(rt: HostRuntime) -> Result<(), Fail> {
+    let mut host = host(rt.alloc(), &[])?;
+    let mut out = [b'.'; 2];
+    host.fuse(0);
+    host.fuse(2);
+    assert_eq!(rt; host.read(FileNo::Db, 0, &mut out), Ok(2));
+    assert_eq!(rt; host.read(FileNo::Images, 0, &mut out), Ok(2));
+    assert_eq!(rt; host.read(FileNo::Db, 0, &mut out), Err(HostFailed));
+    assert_eq!(rt; host.say(b"a"), Err(HostFailed));
+    assert_eq!(rt; host.parts().2, b"".as_slice());
+    assert_eq!(rt; host.reads(), 1);
+    Ok(())
+}
+
+#[test]
 fn gives_pieces(rt: HostRuntime) -> Result<(), Fail> {
     let alloc = rt.alloc();
     let mut source = MemSource::new(b"ab".to_vec(alloc)?, 1, [2].to_vec(alloc)?);
@@ -121,55 +120,5 @@ fn gives_pieces(rt: HostRuntime) -> Result<(), Fail> {
     assert_eq!(rt; source.take(&mut out), Ok(1));
     assert_eq!(rt; out, *b"b..");
     assert_eq!(rt; source.take(&mut out), Ok(0));
-    Ok(())
-}
-
-#[test]
-fn crashes_by_choice(rt: HostRuntime) -> Result<(), Fail> {
-    for (choice, db, images) in [
-        (0, b"blocks".as_slice(), b"old".as_slice()),
-        (1, b"bXYc".as_slice(), b"oldest".as_slice()),
-        (2, b"b\xFF\xFFc\xFF\xFF".as_slice(), b"old".as_slice()),
-        (3, b"b\xFF\xFFc".as_slice(), b"old\xFF\xFF\xFF".as_slice()),
-        (5, b"bXYc".as_slice(), b"oldest".as_slice()),
-    ] {
-        let mut host = host(rt.alloc(), &[8])?;
-        assert_eq!(rt; write(&mut host, FileNo::Db, 1, b"XY"), Ok(()));
-        assert_eq!(rt; cut(&mut host, FileNo::Db, 4), Ok(()));
-        assert_eq!(rt; write(&mut host, FileNo::Images, 3, b"est"), Ok(()));
-        assert_eq!(rt; host.say(b"so far"), Ok(()));
-        assert_eq!(rt; host.sync(FileNo::Images), Err(HostFailed));
-        let left = host.crash(choice)?;
-        assert_eq!(rt; left.parts().0, db, "choice {choice}");
-        assert_eq!(rt; left.parts().1, images, "choice {choice}");
-        assert_eq!(rt; left.parts().2, b"so far".as_slice());
-    }
-    Ok(())
-}
-
-#[test]
-fn keeps_what_is_synced(rt: HostRuntime) -> Result<(), Fail> {
-    for choice in 0..4 {
-        let mut host = host(rt.alloc(), &[])?;
-        assert_eq!(rt; write(&mut host, FileNo::Db, 6, b"!"), Ok(()));
-        assert_eq!(rt; host.sync(FileNo::Db), Ok(()));
-        let left = host.crash(choice)?;
-        assert_eq!(rt; left.parts().0, b"blocks!".as_slice());
-    }
-    Ok(())
-}
-
-#[test]
-fn burns_a_fuse(rt: HostRuntime) -> Result<(), Fail> {
-    let mut host = host(rt.alloc(), &[])?;
-    let mut out = [b'.'; 2];
-    host.fuse(0);
-    host.fuse(2);
-    assert_eq!(rt; host.read(FileNo::Db, 0, &mut out), Ok(2));
-    assert_eq!(rt; host.read(FileNo::Images, 0, &mut out), Ok(2));
-    assert_eq!(rt; host.read(FileNo::Db, 0, &mut out), Err(HostFailed));
-    assert_eq!(rt; write(&mut host, FileNo::Db, 0, b"a"), Err(HostFailed));
-    assert_eq!(rt; host.parts().0, DB);
-    assert_eq!(rt; host.reads(), 1);
     Ok(())
 }
