@@ -1,9 +1,10 @@
 //! What is said for the words and the files, and the exit status.
 
-use crate::files::{CLOSED, LABEL, ONE, SOUND, TWO, database, file, no_input, words};
+use crate::files::{host_of, no_input, two_nodes, words};
+use fixtures::{FixtureError, small_file};
 use gds_cli::gds;
-use host_mem::SureHost;
-use std::alloc::{AllocError, Global};
+use gds_header::HEADER_LENGTH;
+use std::alloc::AllocError;
 use std::process::Abort;
 use std::test::Fail;
 
@@ -17,13 +18,9 @@ struct Row<'a> {
 }
 
 /// Compares the answer over this database and a closed file of images with the row's.
-fn assert_answer(
-    rt: &(impl Abort + AllocGlobal),
-    row: &Row,
-    db: Vec<u8>,
-) -> Result<(), AllocError> {
+fn assert_answer(rt: &(impl Abort + AllocGlobal), row: Row, db: Vec<u8>) -> Result<(), AllocError> {
     let alloc = rt.alloc();
-    let host = SureHost::new(alloc, db, Vec::from_slice(alloc, &CLOSED)?);
+    let host = host_of(alloc, db)?;
     let ended = gds(alloc, &words(alloc, row.words)?, host, no_input(alloc));
     let label = row.label;
     assert_eq!(rt; ended.host.parts().2, row.said.as_bytes(), "{label}");
@@ -43,18 +40,8 @@ fn words_have_their_answers(rt: HostRuntime) -> Result<(), Fail> {
         ("stamp", &["extract", "-stamp=x y~"], "NOTBUILT\n", 22),
         ("empty stamp", &["EXTRACT", "-STAMP="], "NOTBUILT\n", 22),
         ("stamp without =", &["EXTRACT", "-STAMP"], "BADWORDS 1\n", 7),
-        (
-            "bad stamp",
-            &["EXTRACT", "-STAMP=\u{7f}", "x"],
-            "BADWORDS 1\n",
-            7,
-        ),
-        (
-            "two stamps",
-            &["EXTRACT", "-STAMP=x", "-STAMP=x"],
-            "BADWORDS 2\n",
-            7,
-        ),
+        ("bad stamp", &["EXTRACT", "-STAMP=\u{7f}", "x"], "BADWORDS 1\n", 7),
+        ("two stamps", &["EXTRACT", "-STAMP=x", "-STAMP=x"], "BADWORDS 2\n", 7),
     ] {
         let row = Row {
             label,
@@ -62,42 +49,36 @@ fn words_have_their_answers(rt: HostRuntime) -> Result<(), Fail> {
             said,
             status,
         };
-        assert_answer(&rt, &row, Vec::new(rt.alloc()))?;
+        assert_answer(&rt, row, Vec::new(rt.alloc()))?;
     }
     Ok(())
 }
 
-/// What `INTEG` says over a file of this label, these fields and this length.
+/// The first bytes of the small file, so many of them, with others at a place.
+fn cut(
+    rt: &impl AllocGlobal,
+    length: usize,
+    at: usize,
+    bytes: &[u8],
+) -> Result<Vec<u8>, FixtureError> {
+    let mut image = small_file(rt.alloc())?;
+    image.put(at, bytes)?;
+    let mut file = image.into_bytes();
+    file.truncate(length);
+    Ok(file)
+}
+
+/// What `INTEG` says over the first bytes of the small file, where other bytes stand at a place.
 #[test]
 fn integ_tells_what_ends_the_reading(rt: HostRuntime) -> Result<(), Fail> {
-    let whole = 8192 + 100 * 1024;
-    let odd = [1000, 0, 0, 0, 0, 0, 0];
-    for (label, name, fields, length, said, status) in [
-        (
-            "no label",
-            [0; 8],
-            [0; 7],
-            8192,
-            "DBNOTDB file\nFAULTS 1\n",
-            10,
-        ),
-        (
-            "odd block size",
-            LABEL,
-            odd,
-            8192,
-            "DBNOTMLTP file\nFAULTS 1\n",
-            10,
-        ),
-        (
-            "a byte short",
-            LABEL,
-            SOUND,
-            whole - 1,
-            "DBFSTBC file\nFAULTS 1\n",
-            10,
-        ),
-        ("whole", LABEL, SOUND, whole, "NOTBUILT\n", 22),
+    let whole = HEADER_LENGTH + 100 * 1024;
+    for (label, length, at, bytes, said, status) in [
+        ("no bytes", 0, 0, &b""[..], "DBFSTHEAD file\nFAULTS 1\n", 10),
+        ("a byte short of a header", 8191, 0, b"", "DBFSTHEAD file\nFAULTS 1\n", 10),
+        ("another label", whole, 7, b"2", "DBNOTDB file\nFAULTS 1\n", 10),
+        ("odd block size", whole, 8, &[0xE8, 3], "DBNOTMLTP file\nFAULTS 1\n", 10),
+        ("a byte short of its blocks", whole - 1, 0, b"", "DBFSTBC file\nFAULTS 1\n", 10),
+        ("whole", whole, 0, b"", "NOTBUILT\n", 22),
     ] {
         let row = Row {
             label,
@@ -105,35 +86,22 @@ fn integ_tells_what_ends_the_reading(rt: HostRuntime) -> Result<(), Fail> {
             said,
             status,
         };
-        assert_answer(&rt, &row, file(rt.alloc(), name, fields, length)?)?;
-    }
-    Ok(())
-}
-
-/// What `INTEG` says over fewer bytes than a header has.
-#[test]
-fn integ_tells_a_short_file(rt: HostRuntime) -> Result<(), Fail> {
-    let alloc = rt.alloc();
-    for (label, length) in [("no bytes", 0), ("a byte short of a header", 8191)] {
-        let row = Row {
-            label,
-            words: &["integ"],
-            said: "DBFSTHEAD file\nFAULTS 1\n",
-            status: 10,
-        };
-        assert_answer(&rt, &row, vec![in alloc; 0; length]?)?;
+        assert_answer(&rt, row, cut(&rt, length, at, bytes)?)?;
     }
     Ok(())
 }
 
 #[test]
 fn extract_says_the_nodes_of_thin_files(rt: HostRuntime) -> Result<(), Fail> {
+    let alloc = rt.alloc();
+    let mut deep = small_file(alloc)?;
+    deep.put_in_block(1, 3, &[2])?;
     let one = "GT.M MUPIP EXTRACT\nx ZWR\n^A=\"x\"\n";
     let two = "GT.M MUPIP EXTRACT\nx ZWR\n^A=\"x\"\n^A(1)=\"y\"\n";
-    for (label, level, leaf, said, status) in [
-        ("one node", 1, &ONE[..], one, 0),
-        ("two nodes", 1, &TWO, two, 0),
-        ("level 2 in block 1", 2, &ONE, "NOTBUILT\n", 22),
+    for (label, db, said, status) in [
+        ("one node", small_file(alloc)?, one, 0),
+        ("two nodes", two_nodes(alloc)?, two, 0),
+        ("level 2 in block 1", deep, "NOTBUILT\n", 22),
     ] {
         let row = Row {
             label,
@@ -141,7 +109,7 @@ fn extract_says_the_nodes_of_thin_files(rt: HostRuntime) -> Result<(), Fail> {
             said,
             status,
         };
-        assert_answer(&rt, &row, database(rt.alloc(), level, leaf)?)?;
+        assert_answer(&rt, row, db.into_bytes())?;
     }
     Ok(())
 }

@@ -1,7 +1,8 @@
 //! The database file gives fewer bytes than its length had promised.
 ghost use Rattle.std.specs.Prelude.{◌≡◌, ◌≤◌, length};
 
-use crate::files::{CLOSED, ONE, database, no_input, words};
+use crate::files::{host_of, no_input, words};
+use fixtures::small_file;
 use gds_cli::{Status, gds};
 use host_mem::SureHost;
 use host_model::{FileNo, Host, HostFailed};
@@ -96,9 +97,8 @@ fn a_file_that_shrinks_has_changed(rt: HostRuntime) -> Result<(), Fail> {
         ("leaf", "EXTRACT", 5, "CHANGED 5\n"),
         ("leaf again", "EXTRACT", 6, late),
     ] {
-        let images = Vec::from_slice(alloc, &CLOSED)?;
         let host = Shrinking {
-            files: SureHost::new(alloc, database(alloc, 1, &ONE)?, images),
+            files: host_of(alloc, small_file(alloc)?.into_bytes())?,
             reads,
             clock: 0,
         };

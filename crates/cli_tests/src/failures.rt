@@ -1,6 +1,7 @@
 //! The device fails, at each of its calls in turn.
 
-use crate::files::{CLOSED, TWO, database, no_input, words};
+use crate::files::{no_input, two_nodes, words};
+use fixtures::CLOSED;
 use gds_cli::gds;
 use gds_header::HEADER_LENGTH;
 use host_mem::MemHost;
@@ -26,7 +27,7 @@ fn an_extract_ends_with_the_failures_status(rt: HostRuntime) -> Result<(), Fail>
         ("second node", 12, 4, 3),
         ("past the last call", 13, 0, 4),
     ] {
-        let db = database(alloc, 1, &TWO)?;
+        let db = two_nodes(alloc)?.into_bytes();
         let failing = vec![in alloc; call]?;
         let host = MemHost::new(alloc, db, Vec::from_slice(alloc, &CLOSED)?, failing);
         let ended = gds(alloc, &words(alloc, &["EXTRACT"])?, host, no_input(alloc));

@@ -1,9 +1,9 @@
 ghost use Rattle.std.specs.Prelude.{◌≡◌};
 ghost use Rattle.gds_header.specs.Kinds.{IsWithinLimits};
 
-use crate::rows::{NONE, ROWS};
+use crate::rows::ROWS;
 use crate::sink::with_room;
-use gds_block::write_head;
+use fixtures::{block, index, leaf};
 use gds_header::Header;
 use gds_law::{Path, Role, Visit};
 use integ_block::{At, Child, IntegError, block_faults};
@@ -68,25 +68,16 @@ fn at(place: Place) -> At {
     }
 }
 
-/// A block of these records and transaction 1, with one byte changed.
-fn block(level: u8, records: &[u8], (at, byte): (usize, u8)) -> [u8; 512] {
-    let mut bytes = [0; 512];
-    write_head(&mut bytes, level, 16 + records.len().min(496) as u32, 1);
-    for (to, from) in bytes[16..].iter_mut().zip(records) {
-        *to = *from;
-    }
-    if let Some(changed) = bytes.get_mut(at) {
-        *changed = byte;
-    }
-    bytes
-}
-
 #[test]
 fn tells_each_kind(rt: HostRuntime) -> Result<(), Fail> {
     let header = header();
     for row in &ROWS {
         let at = at(row.place);
-        let bytes = block(row.level, row.records, row.change);
+        let mut bytes: [u8; 512] = block(row.level, 1, row.records)?;
+        let (place, byte) = row.change;
+        if let Some(changed) = bytes.get_mut(place) {
+            *changed = byte;
+        }
         let mut sink = with_room(rt.alloc(), 9);
         let mut children = Vec::new(rt.alloc());
         let count = block_faults(&bytes, &at, &header, &mut sink, &mut children)?;
@@ -120,9 +111,7 @@ fn appends_children(rt: HostRuntime) -> Result<(), Fail> {
     let header = header();
     let mut sink = with_room(rt.alloc(), 9);
     let mut children = Vec::new(rt.alloc());
-    // `^A(2)` to block 4, and the star to block 5.
-    let index = b"\x0E\0\0\0A\0\xBF\x21\0\0\x04\0\0\0\x08\0\0\0\x05\0\0\0";
-    let bytes = block(1, index, NONE);
+    let bytes: [u8; 512] = index(1, 1, &[(node(0x21).as_slice(), &[4, 0, 0, 0])], 5)?;
     block_faults(
         &bytes,
         &at(Place::Between(1)),
@@ -131,9 +120,8 @@ fn appends_children(rt: HostRuntime) -> Result<(), Fail> {
         &mut children,
     )?;
     assert_eq!(rt; sink.faults.len(), 0);
-    // `^A` to block 0, which is no pointer, and `^B` to block 3.
-    let names = b"\x0B\0\0\0A\0\0\0\0\0\0\x0B\0\0\0B\0\0\x03\0\0\0";
-    let bytes = block(0, names, NONE);
+    // Block 0 is no pointer.
+    let bytes: [u8; 512] = leaf(1, &[(b"A\0\0", &[0; 4]), (b"B\0\0", &[3, 0, 0, 0])])?;
     block_faults(&bytes, &at(Place::Names), &header, &mut sink, &mut children)?;
     assert_eq!(rt; sink.faults.len(), 1);
     let root = Child {
@@ -152,11 +140,11 @@ fn appends_children(rt: HostRuntime) -> Result<(), Fail> {
 }
 
 #[test]
-fn stops_where_the_sink_fails(rt: HostRuntime) {
+fn stops_where_the_sink_fails(rt: HostRuntime) -> Result<(), Fail> {
     let mut sink = with_room(rt.alloc(), 1);
     let mut children = Vec::new(rt.alloc());
     // The same key twice, the second time with a wrong count.
-    let bytes = block(0, b"\x08\0\0\0A\0\0x\x06\0\x02\0\0y", NONE);
+    let bytes: [u8; 512] = block(0, 1, &[(0, b"A\0\0x"), (2, b"\0y")])?;
     let answer = block_faults(
         &bytes,
         &at(Place::Leaf),
@@ -166,4 +154,5 @@ fn stops_where_the_sink_fails(rt: HostRuntime) {
     );
     assert_eq!(rt; answer, Err(IntegError::SayFault));
     assert_eq!(rt; (sink.faults.len(), sink.failures), (1, 1));
+    Ok(())
 }

@@ -1,5 +1,6 @@
 -- Elements of a list, by recursion: whether one is there, where lists are joined, mapped and searched.
-use Rattle.std.proofs.Common.{◌≡◌, zero, suc, List, [], ◌∷◌, ◌++◌, map, flat_map, Contains, ◌⊎◌, inl, inr, refl, sym, ap, subst, arith}
+use Rattle.std.proofs.Common.{◌≡◌, zero, suc, List, [], ◌∷◌, ◌++◌, map, flat_map, Contains, ◌⊎◌, inl, inr, refl, sym}
+use Rattle.std.proofs.Common.{ap, subst, arith}
 
 -- x is an element of xs
 abbrev pub IsIn : {A : Type 0} → List A → A → Type 0
@@ -46,7 +47,8 @@ in_map f [] x i = absurd i
 in_map f (y ∷ ys) x (inl e) = inl (ap f e)
 in_map f (y ∷ ys) x (inr i) = inr (in_map f ys x i)
 
-pub in_flat_map : {A B : Type 0} (f : A → List B) (xs : List A) (x : A) (y : B) → IsIn xs x → IsIn (f x) y → IsIn (flat_map f xs) y
+pub in_flat_map : {A B : Type 0} (f : A → List B) (xs : List A) (x : A) (y : B) → IsIn xs x → IsIn (f x) y
+    → IsIn (flat_map f xs) y
 in_flat_map f [] x y i j = absurd i
 in_flat_map f (z ∷ zs) x y (inl e) j = in_left (f z) (flat_map f zs) y (subst (λ w. IsIn (f w) y) (sym e) j)
 in_flat_map f (z ∷ zs) x y (inr i) j = in_right (f z) (flat_map f zs) y (in_flat_map f zs x y i j)
@@ -61,7 +63,8 @@ decide_both P Q (inl p) (inr n) = inr (λ h. n h.1)
 decide_both P Q (inr n) q = inr (λ h. n h.0)
 
 -- Some element of a list is such, or none is.
-pub decide_some : {A : Type 0} (P : A → Type 0) → ((x : A) → Decided (P x)) → (xs : List A) → Decided ((x : A) × IsIn xs x × P x)
+pub decide_some : {A : Type 0} (P : A → Type 0) → ((x : A) → Decided (P x)) → (xs : List A)
+    → Decided ((x : A) × IsIn xs x × P x)
 decide_some P d [] = inr (λ h. absurd h.1)
 decide_some {A} P d (y ∷ ys) = by (d y) (decide_some P d ys)
   where

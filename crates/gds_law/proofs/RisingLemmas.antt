@@ -1,5 +1,6 @@
 -- Lists that rise by an order in which no two values tie.
-use Rattle.std.proofs.Common.{◌≡◌, List, [], ◌∷◌, ◌++◌, ◌⊎◌, inl, inr, Ordering, Less, Equal, Greater, refl, sym, ap, subst, ◌∙◌}
+use Rattle.std.proofs.Common.{◌≡◌, List, [], ◌∷◌, ◌++◌, ◌⊎◌, inl, inr, Ordering, Less, Equal, Greater, refl, sym, ap}
+use Rattle.std.proofs.Common.{subst, ◌∙◌}
 use Rattle.std.specs.Prelude.{⊤}
 use Rattle.std.specs.Cmp.{IsTotalOrder}
 use Rattle.std.specs.List.{AllByRecursion}
@@ -35,7 +36,8 @@ sorted_from_Rising cmp [] h = tt
 sorted_from_Rising cmp (x ∷ xs) h = (each_from (λ y. cmp x y ≡ Less) xs h.0, sorted_from_Rising cmp xs h.1)
 
 -- What stands before is below what stands behind.
-pub rises : {A : Type 0} (cmp : A → A → Ordering) (xs ys : List A) → Rising cmp (xs ++ ys) → (x y : A) → IsIn xs x → IsIn ys y → cmp x y ≡ Less
+pub rises : {A : Type 0} (cmp : A → A → Ordering) (xs ys : List A) → Rising cmp (xs ++ ys) → (x y : A) → IsIn xs x
+    → IsIn ys y → cmp x y ≡ Less
 rises cmp [] ys r x y i j = absurd i
 rises cmp (z ∷ zs) ys r x y (inl e) j = subst (λ w. cmp w y ≡ Less) e (r.0 y (in_right zs ys y j))
 rises cmp (z ∷ zs) ys r x y (inr i) j = rises cmp zs ys r.1 x y i j
@@ -44,7 +46,8 @@ pub Rising-behind : {A : Type 0} (cmp : A → A → Ordering) (xs ys : List A) �
 Rising-behind cmp [] ys r = r
 Rising-behind cmp (z ∷ zs) ys r = Rising-behind cmp zs ys r.1
 
-pub Rising-without : {A : Type 0} (cmp : A → A → Ordering) (xs : List A) (y : A) (ys : List A) → Rising cmp (xs ++ y ∷ ys) → Rising cmp (xs ++ ys)
+pub Rising-without : {A : Type 0} (cmp : A → A → Ordering) (xs : List A) (y : A) (ys : List A)
+    → Rising cmp (xs ++ y ∷ ys) → Rising cmp (xs ++ ys)
 Rising-without cmp [] y ys r = r.1
 Rising-without cmp (z ∷ zs) y ys r = (λ w i. r.0 w (in_wider zs y ys w i), Rising-without cmp zs y ys r.1)
 
@@ -83,7 +86,8 @@ module _ (A : Type 0) (cmp : A → A → Ordering) (total : IsTotalOrder cmp) (e
     old : (z : A) → IsIn ys z → IsIn zs z
 
   insert : (x : A) (ys : List A) → Rising cmp ys → (zs : List A) × Inserted x ys zs
-  insert x [] r = (x ∷ [], record { rising = ((λ y i. absurd i), tt); from = λ z i. i; new = inl refl; old = λ z i. absurd i })
+  insert x [] r =
+      (x ∷ [], record { rising = ((λ y i. absurd i), tt); from = λ z i. i; new = inl refl; old = λ z i. absurd i })
   insert x (y ∷ ys) r = by (cmp x y) refl (insert x ys r.1)
     where
       first : cmp x y ≡ Less → (z : A) → IsIn (y ∷ ys) z → cmp x z ≡ Less
@@ -102,8 +106,10 @@ module _ (A : Type 0) (cmp : A → A → Ordering) (total : IsTotalOrder cmp) (e
       old_later zs s z (inr i) = inr (s.old z i)
 
       by : (o : Ordering) → cmp x y ≡ o → ((zs : List A) × Inserted x ys zs) → (zs : List A) × Inserted x (y ∷ ys) zs
-      by Less h rest = (x ∷ y ∷ ys, record { rising = (first h, r); from = λ z i. i; new = inl refl; old = λ z i. inr i })
-      by Equal h rest = (y ∷ ys, record { rising = r; from = λ z i. inr i; new = inl (sym (exact x y h)); old = λ z i. i })
+      by Less h rest =
+          (x ∷ y ∷ ys, record { rising = (first h, r); from = λ z i. i; new = inl refl; old = λ z i. inr i })
+      by Equal h rest =
+          (y ∷ ys, record { rising = r; from = λ z i. inr i; new = inl (sym (exact x y h)); old = λ z i. i })
       by Greater h rest = (
         y ∷ rest.0,
         record {
@@ -118,9 +124,11 @@ module _ (A : Type 0) (cmp : A → A → Ordering) (total : IsTotalOrder cmp) (e
   arranged [] = ([], tt, λ x i. i)
   arranged (x ∷ xs) = by (arranged xs)
     where
-      all : (ys zs : List A) → ((z : A) → IsIn xs z → IsIn ys z) → Inserted x ys zs → (z : A) → IsIn (x ∷ xs) z → IsIn zs z
+      all : (ys zs : List A) → ((z : A) → IsIn xs z → IsIn ys z) → Inserted x ys zs → (z : A) → IsIn (x ∷ xs) z
+          → IsIn zs z
       all ys zs h s z (inl e) = subst (IsIn zs) e s.new
       all ys zs h s z (inr i) = s.old z (h z i)
 
-      by : ((ys : List A) × Rising cmp ys × ((z : A) → IsIn xs z → IsIn ys z)) → (ys : List A) × Rising cmp ys × ((z : A) → IsIn (x ∷ xs) z → IsIn ys z)
+      by : ((ys : List A) × Rising cmp ys × ((z : A) → IsIn xs z → IsIn ys z))
+          → (ys : List A) × Rising cmp ys × ((z : A) → IsIn (x ∷ xs) z → IsIn ys z)
       by rest = let more = insert x rest.0 rest.1 in (more.0, more.1.rising, all rest.0 more.0 rest.2 more.1)

@@ -1,5 +1,6 @@
 -- How deep a block of a file may be.
-use Rattle.std.specs.Prelude.{◌≡◌, ℕ, ◌+◌, ◌-◌, ◌*◌, ◌<◌, ◌≤◌, Bool, not, IsTrue, List, [], length, take, None, Some, IfSome, bytes_eq, Contains, if◌then◌else◌}
+use Rattle.std.specs.Prelude.{◌≡◌, ℕ, ◌+◌, ◌-◌, ◌*◌, ◌<◌, ◌≤◌, Bool, not, IsTrue, List, [], length, take, None, Some}
+use Rattle.std.specs.Prelude.{IfSome, bytes_eq, Contains, if◌then◌else◌}
 use Rattle.std.specs.List.{list_any}
 use Rattle.m_key.specs.Node.{Node}
 use Rattle.m_key.specs.Key.{key_bytes}
@@ -13,7 +14,8 @@ use Rattle.gds_sound.specs.Stands.{StandsFor}
 use Rattle.gds_sound.specs.Questions.{places_of}
 use Rattle.gds_shape.specs.Shape.{level_at}
 
--- A block of level 0 is as deep as it may be: its root has level 7, and each index block from that root to it is so full
+-- A block of level 0 is as deep as it may be: its root has level 7, and each index block from that root to it is so
+-- full
 -- that two more records with the longest keys wouldn't fit.
 pub record IsDeepAt (image : List ℕ) (block : ℕ) : Type 0 where
   pub kept : List Steps
@@ -34,9 +36,11 @@ pub record IsDeepAt (image : List ℕ) (block : ℕ) : Type 0 where
 
 -- the bounds of a visit hold a key
 abbrev pub HoldsKey : Visit → List ℕ → Type 0
-HoldsKey v key = IfSome v.low (λ low. IsTrue (not (is_below key low))) × IfSome v.high (λ high. IsTrue (is_below key high))
+HoldsKey v key =
+    IfSome v.low (λ low. IsTrue (not (is_below key low))) × IfSome v.high (λ high. IsTrue (is_below key high))
 
--- Where a SET of the node would put its key: into the directory first where the map has no node of its name, and else into
+-- Where a SET of the node would put its key: into the directory first where the map has no node of its name, and else
+-- into
 -- the global of that name.
 abbrev pub has_name : Globals → List ℕ → Bool
 has_name m name = list_any (λ p. bytes_eq p.node.name name) (places_of m)
@@ -45,7 +49,8 @@ abbrev pub target_role : Globals → Node → TreeRole
 target_role m node = if has_name m node.name then global node.name else directory
 
 abbrev pub target_key : Globals → Node → List ℕ
-target_key m node = if has_name m node.name then key_bytes node else key_bytes (record { name = node.name; subscripts = [] })
+target_key m node =
+    if has_name m node.name then key_bytes node else key_bytes (record { name = node.name; subscripts = [] })
 
 -- The block in which that key belongs is as deep as it may be.
 pub record IsDeep (image : List ℕ) (node : Node) : Type 0 where

@@ -1,5 +1,6 @@
 -- One move of reorganising, said of the file before and after it.
-use Rattle.std.specs.Prelude.{◌≡◌, ◌⊎◌, ℕ, ◌+◌, ◌-◌, ◌*◌, ◌%◌, ◌==◌, ◌<◌, ◌≤◌, Bool, not, IsTrue, List, [], length, take, filter, None, Some, IfSome, bytes_eq, Contains, if◌then◌else◌}
+use Rattle.std.specs.Prelude.{◌≡◌, ◌⊎◌, ℕ, ◌+◌, ◌-◌, ◌*◌, ◌%◌, ◌==◌, ◌<◌, ◌≤◌, Bool, not, IsTrue, List, [], length}
+use Rattle.std.specs.Prelude.{take, filter, None, Some, IfSome, bytes_eq, Contains, if◌then◌else◌}
 use Rattle.std.specs.List.{list_any, range_with_len}
 use Rattle.m_key.specs.Node.{Node}
 use Rattle.m_key.specs.Key.{key_bytes}
@@ -48,7 +49,8 @@ changed_units old new =
     (if bytes_eq (take 8192 old) (take 8192 new) then 0 else 1)
     + length (filter (is_changed old new) (range_with_len 0 (fields_of old).total))
 
--- One move: both files have no fault and stand for one map, the transaction number is one more, the file may have grown, all
+-- One move: both files have no fault and stand for one map, the transaction number is one more, the file may have
+-- grown, all
 -- other fields of the header but the free count and the master map stay, and one thing was mended. Where the total
 -- stays at most 64 units differ.
 pub record IsMove (old new : List ℕ) (fill : ℕ) : Type 0 where

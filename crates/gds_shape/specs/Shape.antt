@@ -1,5 +1,7 @@
 -- The shape that reorganising gives a file without faults.
-use Rattle.std.specs.Prelude.{◌≡◌, ◌≢◌, ◌⊎◌, ℕ, ◌+◌, ◌-◌, ◌*◌, ◌/◌, ◌%◌, ◌==◌, ◌<◌, ◌≤◌, Bool, ◌&&◌, not, min, max, List, [], ◌∷◌, ◌++◌, length, take, drop, map, filter, fold, Option, None, Some, unwrap_or, if◌then◌else◌}
+use Rattle.std.specs.Prelude.{◌≡◌, ◌≢◌, ◌⊎◌, ℕ, ◌+◌, ◌-◌, ◌*◌, ◌/◌, ◌%◌, ◌==◌, ◌<◌, ◌≤◌, Bool, ◌&&◌, not, min, max}
+use Rattle.std.specs.Prelude.{List, [], ◌∷◌, ◌++◌, length, take, drop, map, filter, fold, Option, None, Some, unwrap_or}
+use Rattle.std.specs.Prelude.{if◌then◌else◌}
 use Rattle.std.specs.List.{AllByRecursion, filter_map, range_with_len}
 use Rattle.gds_block.specs.Block.{level_of}
 use Rattle.gds_header.specs.Fields.{fields_of, block_of}
@@ -36,19 +38,24 @@ leaves_together image (a, b) = packed_size (packed_at image a ++ packed_at image
 
 abbrev pub with_last_key : List ℕ → List Item → List Item
 with_last_key key items =
-    take (length items - 1) items ++ map (λ star. record { key = key; rest = star.rest }) (drop (length items - 1) items)
+    take (length items - 1) items
+    ++ map (λ star. record { key = key; rest = star.rest }) (drop (length items - 1) items)
 
 abbrev pub indexes_together : List ℕ → Visit × Visit → ℕ
-indexes_together image (a, b) = packed_size (with_last_key (unwrap_or a.high []) (packed_at image a) ++ packed_at image b)
+indexes_together image (a, b) =
+    packed_size (with_last_key (unwrap_or a.high []) (packed_at image a) ++ packed_at image b)
 
 -- Two neighbouring level-0 blocks need more than the fill factor lets one have, and two index blocks more than a block.
 abbrev pub HasFullLeaves : List ℕ → ℕ → Visit → Type 0
 HasFullLeaves image fill v =
-    level_at image v ≡ 1 → AllByRecursion (λ pair. filled image fill < leaves_together image pair) (neighbours (children_at image v))
+    level_at image v ≡ 1
+    → AllByRecursion (λ pair. filled image fill < leaves_together image pair) (neighbours (children_at image v))
 
 abbrev pub HasFullIndexes : List ℕ → Visit → Type 0
 HasFullIndexes image v =
-    2 ≤ level_at image v → AllByRecursion (λ pair. (fields_of image).block_size < indexes_together image pair) (neighbours (children_at image v))
+    2 ≤ level_at image v
+    → AllByRecursion (λ pair. (fields_of image).block_size < indexes_together image pair)
+    (neighbours (children_at image v))
 
 -- A level-0 block needs no more than the fill factor lets it have, or has one record.
 abbrev pub IsNotOverfull : List ℕ → ℕ → Visit → Type 0

@@ -1,6 +1,7 @@
 -- Sound trees: where nothing is wrong with a block and sound trees stand below it, and so wherever a path leads on from
 -- there.
-use Rattle.std.proofs.Common.{◌≡◌, ℕ, zero, suc, ◌==◌, true, List, [], ◌∷◌, length, map, Option, None, Some, option_map, inl, inr, refl, sym, ap, subst, ◌∙◌}
+use Rattle.std.proofs.Common.{◌≡◌, ℕ, zero, suc, ◌==◌, true, List, [], ◌∷◌, length, map, Option, None, Some, option_map}
+use Rattle.std.proofs.Common.{inl, inr, refl, sym, ap, subst, ◌∙◌}
 use Rattle.std.specs.Prelude.{⊤}
 use Rattle.std.proofs.lemmas.Bool.{and_parts, and_from, eqb-true, eq-eqb}
 use Rattle.std.proofs.lemmas.List.{nil_from_length}
@@ -14,7 +15,8 @@ use Rattle.gds_sound.proofs.BlockLemmas.{kinds_at, level_at, leaf_visits, value_
 
 -- ---- a part of an option
 
-pub some_map : {A B : Type 0} (f : A → B) (o : Option A) (y : B) → option_map f o ≡ Some y → (x : A) × (o ≡ Some x) × (f x ≡ y)
+pub some_map : {A B : Type 0} (f : A → B) (o : Option A) (y : B) → option_map f o ≡ Some y
+    → (x : A) × (o ≡ Some x) × (f x ≡ y)
 some_map f None y h = absurd (cc)
 some_map f (Some x) y h = (x, refl, cc)
 
@@ -35,14 +37,19 @@ pub record IsIndex (image : List ℕ) (height : ℕ) (v : Visit) (t : Tree) : Ty
   pub forest : forest_of (sound_tree image height) (children_at image v) ≡ Some below
   pub is : joined (root_only v) below ≡ t
 
-faultless_parts : (image : List ℕ) (v : Visit) (level : ℕ) → is_faultless image v level ≡ true → (level_at image v ≡ level) × (kinds_at image v ≡ [])
+faultless_parts : (image : List ℕ) (v : Visit) (level : ℕ) → is_faultless image v level ≡ true
+    → (level_at image v ≡ level) × (kinds_at image v ≡ [])
 faultless_parts image v level h =
-    let p = and_parts (level_at image v == level) (length (kinds_at image v) == 0) h in
-    (eqb-true (level_at image v) level p.0, nil_from_length (kinds_at image v) (eqb-true (length (kinds_at image v)) 0 p.1))
+    let p = and_parts (level_at image v == level) (length (kinds_at image v) == 0) h in (
+      eqb-true (level_at image v) level p.0,
+      nil_from_length (kinds_at image v) (eqb-true (length (kinds_at image v)) 0 p.1),
+    )
 
-pub faultless_from : (image : List ℕ) (v : Visit) (level : ℕ) → level_at image v ≡ level → kinds_at image v ≡ [] → is_faultless image v level ≡ true
+pub faultless_from : (image : List ℕ) (v : Visit) (level : ℕ) → level_at image v ≡ level → kinds_at image v ≡ []
+    → is_faultless image v level ≡ true
 faultless_from image v level e h =
-    and_from (level_at image v == level) (length (kinds_at image v) == 0) (eq-eqb (level_at image v) level e) (eq-eqb (length (kinds_at image v)) 0 (ap length h))
+    and_from (level_at image v == level) (length (kinds_at image v) ==
+    0) (eq-eqb (level_at image v) level e) (eq-eqb (length (kinds_at image v)) 0 (ap length h))
 
 pub leaf_parts : (image : List ℕ) (v : Visit) (t : Tree) → sound_tree image zero v ≡ Some t → IsLeaf image v t
 leaf_parts image v t h =
@@ -50,22 +57,26 @@ leaf_parts image v t h =
     let q = faultless_parts image v 0 p.0 in
     record { level = q.0; none = q.1; is = cc (p.1) }
 
-pub index_parts : (image : List ℕ) (level : ℕ) (v : Visit) (t : Tree) → sound_tree image (suc level) v ≡ Some t → IsIndex image level v t
+pub index_parts : (image : List ℕ) (level : ℕ) (v : Visit) (t : Tree) → sound_tree image (suc level) v ≡ Some t
+    → IsIndex image level v t
 index_parts image level v t h =
     let p = some_if (is_faultless image v (suc level)) _ t h in
     let q = faultless_parts image v (suc level) p.0 in
     let f = some_map (joined (root_only v)) (forest_of (sound_tree image level) (children_at image v)) t p.1 in
     record { level = q.0; none = q.1; below = f.0; forest = f.1; is = f.2 }
 
-pub tree_level : (image : List ℕ) (level : ℕ) (v : Visit) (t : Tree) → sound_tree image level v ≡ Some t → level_at image v ≡ level
+pub tree_level : (image : List ℕ) (level : ℕ) (v : Visit) (t : Tree) → sound_tree image level v ≡ Some t
+    → level_at image v ≡ level
 tree_level image zero v t h = (leaf_parts image v t h).level
 tree_level image (suc level) v t h = (index_parts image level v t h).level
 
-pub tree_clean : (image : List ℕ) (level : ℕ) (v : Visit) (t : Tree) → sound_tree image level v ≡ Some t → kinds_at image v ≡ []
+pub tree_clean : (image : List ℕ) (level : ℕ) (v : Visit) (t : Tree) → sound_tree image level v ≡ Some t
+    → kinds_at image v ≡ []
 tree_clean image zero v t h = (leaf_parts image v t h).none
 tree_clean image (suc level) v t h = (index_parts image level v t h).none
 
-pub own_level : (image : List ℕ) (level : ℕ) (v : Visit) (t : Tree) → sound_tree image level v ≡ Some t → tree_at image v ≡ Some t
+pub own_level : (image : List ℕ) (level : ℕ) (v : Visit) (t : Tree) → sound_tree image level v ≡ Some t
+    → tree_at image v ≡ Some t
 own_level image level v t h = ap (λ l. sound_tree image l v) (tree_level image level v t h) ∙ h
 
 -- the trees of a forest
@@ -76,7 +87,8 @@ pub record IsForest (tree : Visit → Option Tree) (c : Child) (cs : List Child)
   pub later : forest_of tree cs ≡ Some rest
   pub is : joined first rest ≡ f
 
-pub forest_parts : (tree : Visit → Option Tree) (c : Child) (cs : List Child) (f : Tree) → forest_of tree (c ∷ cs) ≡ Some f → IsForest tree c cs f
+pub forest_parts : (tree : Visit → Option Tree) (c : Child) (cs : List Child) (f : Tree)
+    → forest_of tree (c ∷ cs) ≡ Some f → IsForest tree c cs f
 forest_parts tree c cs f h =
     let p = some_then (λ t. option_map (joined t) (forest_of tree cs)) (tree c.visit) f h in
     let q = some_map (joined p.0) (forest_of tree cs) f p.2 in
@@ -88,7 +100,8 @@ pub record IsAmong (tree : Option Tree) (items : List Item) : Type 0 where
   pub there : tree ≡ Some one
   pub items_in : (item : Item) → IsIn one.items item → IsIn items item
 
-pub each_tree : (tree : Visit → Option Tree) (cs : List Child) (f : Tree) → forest_of tree cs ≡ Some f → (c : Child) → IsIn cs c → IsAmong (tree c.visit) f.items
+pub each_tree : (tree : Visit → Option Tree) (cs : List Child) (f : Tree) → forest_of tree cs ≡ Some f → (c : Child)
+    → IsIn cs c → IsAmong (tree c.visit) f.items
 each_tree tree [] f h c i = absurd i
 each_tree tree (d ∷ ds) f h c (inl e) =
     let p = forest_parts tree d ds f h in
@@ -103,16 +116,20 @@ each_tree tree (d ∷ ds) f h c (inr j) =
     record {
       one = a.one;
       there = a.there;
-      items_in = λ item i. subst (λ (t : Tree). IsIn t.items item) p.is (in_right p.first.items p.rest.items item (a.items_in item i));
+      items_in =
+          λ item i. subst (λ (t : Tree). IsIn t.items item) p.is
+          (in_right p.first.items p.rest.items item (a.items_in item i));
     }
 
 -- ---- a sound tree whose entries have sound trees too
 
 abbrev pub RootsSound : List ℕ → TreeRole → List Item → Type 0
-RootsSound image directory items = (entry : Item) → IsIn items entry → (t : Tree) × (tree_at image (root_of entry) ≡ Some t)
+RootsSound image directory items = (entry : Item) → IsIn items entry
+    → (t : Tree) × (tree_at image (root_of entry) ≡ Some t)
 RootsSound image (global name) items = ⊤
 
-pub roots_fewer : (image : List ℕ) (role : TreeRole) (items more : List Item) → ((item : Item) → IsIn items item → IsIn more item) → RootsSound image role more → RootsSound image role items
+pub roots_fewer : (image : List ℕ) (role : TreeRole) (items more : List Item)
+    → ((item : Item) → IsIn items item → IsIn more item) → RootsSound image role more → RootsSound image role items
 roots_fewer image directory items more h r = λ entry i. r entry (h entry i)
 roots_fewer image (global name) items more h r = tt
 
@@ -129,10 +146,12 @@ in_map_from f [] y i = absurd i
 in_map_from f (x ∷ xs) y (inl e) = (x, inl refl, e)
 in_map_from f (x ∷ xs) y (inr i) = let r = in_map_from f xs y i in (r.0, inr r.1, r.2)
 
-rooted_root : (image : List ℕ) (v : Visit) (entry : Item) (t : Tree) → root_of entry ≡ v → tree_at image (root_of entry) ≡ Some t → IsRooted image v
+rooted_root : (image : List ℕ) (v : Visit) (entry : Item) (t : Tree) → root_of entry ≡ v
+    → tree_at image (root_of entry) ≡ Some t → IsRooted image v
 rooted_root image v entry t e h = subst (IsRooted image) e (record { tree = t; sound = h; roots = tt })
 
-rooted_below : (image : List ℕ) (level : ℕ) (v : Visit) (t : Tree) (c : Child) → sound_tree image level v ≡ Some t → RootsSound image v.role t.items → IsIn (children_at image v) c → IsRooted image c.visit
+rooted_below : (image : List ℕ) (level : ℕ) (v : Visit) (t : Tree) (c : Child) → sound_tree image level v ≡ Some t
+    → RootsSound image v.role t.items → IsIn (children_at image v) c → IsRooted image c.visit
 rooted_below image zero v t c h r i = by v.role refl r
   where
     p : IsLeaf image v t
@@ -142,7 +161,8 @@ rooted_below image zero v t c h r i = by v.role refl r
     by (global name) e s = absurd (subst (λ (cs : List Child). IsIn cs c) (value_leaf image v name p.none p.level e) i)
     by directory e s =
         let j : IsIn (map root_of (items_at image v)) c.visit =
-        subst (λ (vs : List Visit). IsIn vs c.visit) (leaf_visits image v p.none p.level e) (in_map (λ (d : Child). d.visit) (children_at image v) c i) in
+        subst (λ (vs : List Visit). IsIn vs c.visit) (leaf_visits image v p.none p.level e)
+        (in_map (λ (d : Child). d.visit) (children_at image v) c i) in
         let k = in_map_from root_of (items_at image v) c.visit j in
         let there : IsIn t.items k.0 = subst (λ (w : Tree). IsIn w.items k.0) p.is k.1 in
         let tree = s k.0 there in
@@ -151,14 +171,17 @@ rooted_below image (suc level) v t c h r i =
     let p = index_parts image level v t h in
     let a = each_tree (sound_tree image level) (children_at image v) p.below p.forest c i in
     let role = (index_role image v c level p.none p.level i).0 in
-    let items : (item : Item) → IsIn a.one.items item → IsIn t.items item = λ item j. subst (λ (w : Tree). IsIn w.items item) p.is (a.items_in item j) in
+    let items : (item : Item) → IsIn a.one.items item → IsIn t.items item =
+    λ item j. subst (λ (w : Tree). IsIn w.items item) p.is (a.items_in item j) in
     record {
       tree = a.one;
       sound = own_level image level c.visit a.one a.there;
-      roots = roots_fewer image c.visit.role a.one.items t.items items (subst (λ w. RootsSound image w t.items) (sym role) r);
+      roots = roots_fewer image c.visit.role a.one.items t.items items
+          (subst (λ w. RootsSound image w t.items) (sym role) r);
     }
 
-pub rooted_child : (image : List ℕ) (v : Visit) (c : Child) → IsRooted image v → IsIn (children_at image v) c → IsRooted image c.visit
+pub rooted_child : (image : List ℕ) (v : Visit) (c : Child) → IsRooted image v → IsIn (children_at image v) c
+    → IsRooted image c.visit
 rooted_child image v c r i = rooted_below image (level_at image v) v r.tree c r.sound r.roots i
 
 -- where a path with a record leads: through a child
@@ -169,7 +192,8 @@ pub record LeadsThrough (image : List ℕ) (v : Visit) (block offset : ℕ) (ste
   pub at : child.offset ≡ offset
   pub rest : visit_from image child.visit steps ≡ Some w
 
-pub leads_through : (image : List ℕ) (v : Visit) (block offset : ℕ) (steps : Steps) (w : Visit) → visit_from image v ((block, offset) ∷ steps) ≡ Some w
+pub leads_through : (image : List ℕ) (v : Visit) (block offset : ℕ) (steps : Steps) (w : Visit)
+    → visit_from image v ((block, offset) ∷ steps) ≡ Some w
     → LeadsThrough image v block offset steps w
 leads_through image v block offset steps w h =
     let here = some_if (block == v.block) _ w h in
@@ -183,7 +207,8 @@ leads_through image v block offset steps w h =
       rest = ap (λ u. visit_from image u steps) l.leads ∙ on.2;
     }
 
-pub rooted_path : (image : List ℕ) (path : Steps) (v w : Visit) → IsRooted image v → visit_from image v path ≡ Some w → IsRooted image w
+pub rooted_path : (image : List ℕ) (path : Steps) (v w : Visit) → IsRooted image v → visit_from image v path ≡ Some w
+    → IsRooted image w
 rooted_path image [] v w r h = let same : v ≡ w = cc in subst (IsRooted image) same r
 rooted_path image ((block, offset) ∷ steps) v w r h =
     let l = leads_through image v block offset steps w h in

@@ -1,5 +1,6 @@
 -- What is asked of a map of globals.
-use Rattle.std.specs.Prelude.{ℕ, ◌+◌, ◌-◌, Bool, false, ◌&&◌, nat_lt, List, length, take, map, Option, None, Some, find, option_map, option_and_then, slice_get, bytes_eq, if◌then◌else◌}
+use Rattle.std.specs.Prelude.{ℕ, ◌+◌, ◌-◌, Bool, false, ◌&&◌, nat_lt, List, length, take, map, Option, None, Some, find}
+use Rattle.std.specs.Prelude.{option_map, option_and_then, slice_get, bytes_eq, if◌then◌else◌}
 use Rattle.std.specs.List.{list_any}
 use Rattle.std.specs.Option.{option_map_or}
 use Rattle.std.specs.Ordering.{nat_cmp, is_lt, is_eq}
@@ -41,7 +42,8 @@ next_under m a s =
 
 -- the least name above one
 abbrev pub next_name : Globals → List ℕ → Option Next
-next_name m own = option_map (λ p. name p.node.name) (find (λ p. is_lt (slice_cmp nat_cmp own p.node.name)) (places_of m))
+next_name m own =
+    option_map (λ p. name p.node.name) (find (λ p. is_lt (slice_cmp nat_cmp own p.node.name)) (places_of m))
 
 -- ORDER: the first subscript under a node, or what comes next on its level
 abbrev pub next_from : Globals → Node → Option NodeSubscript → Option Next

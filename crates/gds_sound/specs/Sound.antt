@@ -1,5 +1,7 @@
 -- A second reading of files, by recursion on the levels of their trees: which trees and files are sound.
-use Rattle.std.specs.Prelude.{◌≡◌, ◌↔◌, ℕ, zero, suc, ◌+◌, ◌<◌, ◌%◌, ◌==◌, Bool, false, ◌&&◌, ◌||◌, nat_eq, IsTrue, List, [], ◌∷◌, ◌++◌, length, map, flat_map, All, Option, None, Some, option_map, option_and_then, if◌then◌else◌}
+use Rattle.std.specs.Prelude.{◌≡◌, ◌↔◌, ℕ, zero, suc, ◌+◌, ◌<◌, ◌%◌, ◌==◌, Bool, false, ◌&&◌, ◌||◌, nat_eq, IsTrue}
+use Rattle.std.specs.Prelude.{List, [], ◌∷◌, ◌++◌, length, map, flat_map, All, Option, None, Some, option_map}
+use Rattle.std.specs.Prelude.{option_and_then, if◌then◌else◌}
 use Rattle.std.specs.List.{list_any, AllZip, IsDistinct}
 use Rattle.std.specs.FinMap.{entries}
 use Rattle.m_key.specs.Key.{key_bytes}
@@ -41,14 +43,17 @@ is_faultless image v level =
 abbrev pub items_at : List ℕ → Visit → List Item
 items_at image v = let bytes = block_of image v.block in items_of (reading_of (fields_of image) v bytes) bytes
 
--- The sound tree of a level at a visit, which says the tree's role, the level that is due and the bounds of its keys, if
--- there is one: at level 0 a block with which nothing is wrong, above it such a block and the sound trees below its records.
+-- The sound tree of a level at a visit, which says the tree's role, the level that is due and the bounds of its keys,
+-- if
+-- there is one: at level 0 a block with which nothing is wrong, above it such a block and the sound trees below its
+-- records.
 abbrev pub sound_tree : List ℕ → ℕ → Visit → Option Tree
 sound_tree image zero v =
     if is_faultless image v 0 then Some (record { blocks = v.block ∷ []; items = items_at image v }) else None
 sound_tree image (suc level) v =
     if is_faultless image v (suc level)
-    then option_map (joined (record { blocks = v.block ∷ []; items = [] })) (forest_of (sound_tree image level) (children_at image v))
+    then option_map (joined (record { blocks = v.block ∷ []; items = [] }))
+    (forest_of (sound_tree image level) (children_at image v))
     else None
 
 -- the sound tree of a root, whose level its own block says
@@ -61,8 +66,10 @@ root_of entry = global_root (u32_at entry.rest 0) (name_part entry.key)
 
 -- A place in a group's map is right: busy where the block is used, free where it isn't, and 00 past the last block.
 pub record IsRightPair (image : List ℕ) (used : ℕ → Bool) (group k : ℕ) : Type 0 where
-  pub busy : IsTrue (is_present (fields_of image) group k) → IsTrue (used (map_number group + k)) → pair_of (map_of image group) k ≡ 0
-  pub free : IsTrue (is_present (fields_of image) group k) → used (map_number group + k) ≡ false → IsTrue (is_free_at (map_of image group) k)
+  pub busy : IsTrue (is_present (fields_of image) group k) → IsTrue (used (map_number group + k))
+      → pair_of (map_of image group) k ≡ 0
+  pub free : IsTrue (is_present (fields_of image) group k) → used (map_number group + k) ≡ false
+      → IsTrue (is_free_at (map_of image group) k)
   pub past : is_present (fields_of image) group k ≡ false → pair_of (map_of image group) k ≡ 0
 
 -- A group's map is right: its head, its pairs, and what the master map says of the group.
@@ -78,8 +85,10 @@ pub record IsRightMap (image : List ℕ) (used : ℕ → Bool) (group : ℕ) : T
 abbrev pub is_in_use : List ℕ → ℕ → Bool
 is_in_use blocks block = (block % 512 == 0) || list_any (nat_eq block) blocks
 
--- A sound file: its header has no fault, so that it is within the limits and has the length that it says; the directory is
--- a sound tree and has one for each of its entries; no block is in them twice; and the maps, the master map and the free
+-- A sound file: its header has no fault, so that it is within the limits and has the length that it says; the directory
+-- is
+-- a sound tree and has one for each of its entries; no block is in them twice; and the maps, the master map and the
+-- free
 -- count are right.
 pub record IsSound (image : List ℕ) (directory : Tree) (globals : List Tree) : Type 0 where
   pub header : header_faults image ≡ []
@@ -90,15 +99,18 @@ pub record IsSound (image : List ℕ) (directory : Tree) (globals : List Tree) :
       IsRightMap image (is_in_use (directory.blocks ++ flat_map (λ tree. tree.blocks) globals)) group
   pub count : (fields_of image).free ≡ free_blocks image
 
--- the law of both readings: a file has no fault exactly where it is sound, and then, made of bytes, stands for the map whose
+-- the law of both readings: a file has no fault exactly where it is sound, and then, made of bytes, stands for the map
+-- whose
 -- pairs are the items of its globals' trees
 pub record ReadingsAgree (image : List ℕ) : Type 0 where
   pub sound : AreFaults image [] → (directory : Tree) × (globals : List Tree) × IsSound image directory globals
   pub faultless : (directory : Tree) (globals : List Tree) → IsSound image directory globals → AreFaults image []
-  pub pairs : All (λ b. b < 256) image → (directory : Tree) (globals : List Tree) (m : Globals) → IsSound image directory globals →
+  pub pairs : All (λ b. b < 256) image → (directory : Tree) (globals : List Tree) (m : Globals)
+      → IsSound image directory globals →
       StandsFor image m
       ↔ (map (λ e. record { key = key_bytes e.0.node; rest = e.1 }) (entries m) ≡ flat_map (λ tree. tree.items) globals)
 
 -- the law that a file of bytes without faults stands for exactly one map
 abbrev pub HasOneMap : List ℕ → Type 0
-HasOneMap image = ((m : Globals) × StandsFor image m) × ((a b : Globals) → StandsFor image a → StandsFor image b → a ≡ b)
+HasOneMap image =
+    ((m : Globals) × StandsFor image m) × ((a b : Globals) → StandsFor image a → StandsFor image b → a ≡ b)

@@ -29,13 +29,19 @@ values_of b bytes = if points b then [] else items_of b bytes
 
 abbrev pub values_at : List ℕ → Steps → List Item
 values_at image path =
-    option_map_or (λ v. values_of (reading_of (fields_of image) v (block_of image v.block)) (block_of image v.block)) (visit_at image path) []
+    option_map_or (λ v. values_of (reading_of (fields_of image) v (block_of image v.block)) (block_of image v.block))
+    (visit_at image path) []
 
--- The file has no fault, and the map's pairs are those of the level-0 blocks of globals in which kept paths end, however
+-- The file has no fault, and the map's pairs are those of the level-0 blocks of globals in which kept paths end,
+-- however
 -- the blocks share them out.
 pub record StandsFor (image : List ℕ) (m : Globals) : Type 0 where
   pub faultless : AreFaults image []
   pub kept : List Steps
   pub are_kept : AreKept image kept
   pub pairs : (p : Place) (value : List ℕ) →
-      (get m p ≡ Some value) ↔ Contains (flat_map (values_at image) kept) (record { key = key_bytes p.node; rest = value })
+      (get m p ≡ Some value) ↔ Contains (flat_map (values_at image) kept) (record {
+        key = key_bytes p.node;
+        rest =
+            value;
+      })

@@ -37,8 +37,10 @@ no_text : (bytes : List ℕ) → (((text : List ℕ) × IsTextOf bytes text) →
     → unescaped bytes ≡ o → is_text o ≡ false
 no_text bytes none None e = refl
 no_text bytes none (Some text) e =
-    false_from_ne_true (not (is_number_text text)) (λ t. none (text,
-        (e, λ n h f. false≢true (sym (ap not ((text_test text).1 (n, h, f))) ∙ t))))
+    false_from_ne_true (not (is_number_text text)) (λ t. none (
+      text,
+      (e, λ n h f. false≢true (sym (ap not ((text_test text).1 (n, h, f))) ∙ t)),
+    ))
 
 pub is_text_of : (t : Bool) (bytes : List ℕ)
     → (t ≡ true) ↔ ((text : List ℕ) × (unescaped bytes ≡ Some text)
@@ -46,7 +48,7 @@ pub is_text_of : (t : Bool) (bytes : List ℕ)
 is_text_of true bytes h =
     let (text, e, none) = h.0 refl in
     let no_number : is_number_text text ≡ false =
-        false_from_ne_true (is_number_text text) (λ t. let f = (text_test text).0 t in none f.0 f.1 f.2) in
+    false_from_ne_true (is_number_text text) (λ t. let f = (text_test text).0 t in none f.0 f.1 f.2) in
     sym (ap is_text e ∙ ap not no_number)
 is_text_of false bytes h = sym (no_text bytes (λ (text, f). false≢true (h.1 (text, f.0, f.1))) (unescaped bytes) refl)
 
@@ -71,7 +73,7 @@ number_fault : (part : List ℕ) → bytes_eq (take 1 part) (255 ∷ []) ≡ fal
 number_fault [] t = sym (cond-false (is_number_bytes []) None (Some BadNumber) no_number)
 number_fault (b ∷ bytes) t =
     number_by b bytes (false_from_ne_true (b == 255) (λ e. let same : b ≡ 255 = eqb-true b 255 e in
-        no_front 255 (b ∷ bytes) t bytes (ap (λ x. x ∷ bytes) same)))
+    no_front 255 (b ∷ bytes) t bytes (ap (λ x. x ∷ bytes) same)))
 
 pub is_number_then : (part : List ℕ) → bytes_eq (take 1 part) (255 ∷ []) ≡ false → is_number_bytes part ≡ true
     → subscript_fault part ≡ None

@@ -1,7 +1,5 @@
 -- Subscripts with which nothing is wrong.
 use Rattle.std.proofs.Common.{ℕ, ◌≡◌, ◌+◌, ◌-◌, ◌<◌, ◌≤◌, Bool, true, false, cond, ℤ, pos, negsuc, List, [], ◌∷◌, ◌++◌, length, get_or, take, drop, map, Option, None, Some, refl, sym, ◌∙◌, ap, subst, arith, add-one, suc}
-use Rattle.std.specs.Bool.{OnTrue}
-use Rattle.std.specs.Option.{is_some, IfSome, IfNone}
 use Rattle.std.specs.Prelude.{not, ◌==◌, ◌||◌, nat_lt, nat_le, option_map, slice_index, All, replicate}
 use Rattle.std.specs.Char.{is_ascii_digit}
 use Rattle.std.specs.List.{AllByRecursion}
@@ -9,9 +7,7 @@ use Rattle.std.proofs.lemmas.Bool.{cond-true, cond-false, lt-ltb, le-leb, ne_eqb
 use Rattle.std.proofs.lemmas.Bool.Decides.{nat_tests}
 use Rattle.std.proofs.lemmas.List.Elements.{recursion_from_All}
 use Rattle.m_number.specs.Numeral.{Numeral, IsNumeral}
-use Rattle.m_number.specs.Number.{numeral_of}
 use Rattle.m_number.specs.Bytes.{bytes_of}
-use Rattle.m_number.specs.declared.number.Number.{Number}
 use Rattle.m_number.specs.Text.{codes_of, large_text, nonzero_text, size_text, text_of}
 use Rattle.gds_law.specs.Number.{is_number_text, is_number_bytes}
 use Rattle.m_key.specs.KeyParts.{unescaped}
@@ -22,7 +18,7 @@ use Rattle.integ_quick.specs.Subscripts.{begins_number}
 
 -- ---- numbers
 
-pub subscript_fault-number : (bytes : List ℕ) → 0 < length bytes → (get_or bytes 0 0 ≡ 255 → ⊥) → is_number_bytes bytes ≡ true → subscript_fault bytes ≡ None
+subscript_fault-number : (bytes : List ℕ) → 0 < length bytes → (get_or bytes 0 0 ≡ 255 → ⊥) → is_number_bytes bytes ≡ true → subscript_fault bytes ≡ None
 subscript_fault-number [] some h t = absurd (omega arith)
 subscript_fault-number (b ∷ bytes) some h t =
     cond-true (not (b == 255)) (cond (is_number_bytes (b ∷ bytes)) None (Some BadNumber)) _ (ap not (ne_eqb b 255 h))
@@ -36,10 +32,10 @@ unescaped-plain (b ∷ []) h = cond-true (nat_lt 1 b) (Some (b ∷ [])) None (lt
 unescaped-plain (b ∷ c ∷ text) h =
     cond-true (nat_lt 1 b) _ _ (lt-ltb 1 b h.0) ∙ ap (option_map (λ xs. b ∷ xs)) (unescaped-plain (c ∷ text) h.1)
 
-pub subscript_fault-text : (text : List ℕ) → 0 < length text → All (λ b. 1 < b) text → is_number_text text ≡ false → subscript_fault (255 ∷ text) ≡ None
-subscript_fault-text text some plain other =
-    cond-false (length text == 0) (Some NullSubscript) (cond (is_text (unescaped text)) None (Some BadString)) (ne_eqb (length text) 0 (λ e. omega arith))
-    ∙ cond-true (is_text (unescaped text)) None (Some BadString) (ap is_text (unescaped-plain text (recursion_from_All (λ b. 1 < b) text plain)) ∙ ap not other)
+subscript_fault-text : (bytes text : List ℕ) → 0 < length bytes → unescaped bytes ≡ Some text → is_number_text text ≡ false → subscript_fault (255 ∷ bytes) ≡ None
+subscript_fault-text bytes text some e other =
+    cond-false (length bytes == 0) (Some NullSubscript) (cond (is_text (unescaped bytes)) None (Some BadString)) (ne_eqb (length bytes) 0 (λ f. omega arith))
+    ∙ cond-true (is_text (unescaped bytes)) None (Some BadString) (ap is_text e ∙ ap not other)
 
 -- ---- how texts of numbers begin
 
@@ -67,26 +63,25 @@ begins : (n : Numeral) → IsNumeral n → begins_number (slice_index (text_of n
 unfolding text_of
 begins n h = begins_by n h n.negative
 
--- the two ways to see that a text is no number's
-pub no_number-begun : (text : List ℕ) → begins_number (slice_index text 0) ≡ false → is_number_text text ≡ false
+no_number-begun : (text : List ℕ) → begins_number (slice_index text 0) ≡ false → is_number_text text ≡ false
 no_number-begun text h =
     false_from_ne_true (is_number_text text)
     (λ t. let f = (text_test text).0 t in
         false≢true (sym h ∙ ap (λ xs. begins_number (slice_index xs 0)) (sym f.2) ∙ begins f.0 f.1))
 
-pub no_number-none : (text : List ℕ) → ((n : Numeral) → IsNumeral n → text_of n ≡ text → ⊥) → is_number_text text ≡ false
-no_number-none text h = false_from_ne_true (is_number_text text) (λ t. let f = (text_test text).0 t in h f.0 f.1 f.2)
+-- ---- the tests
 
--- ---- from the answers of calls
+pub subscript_fault-encoded : (bytes : List ℕ) → 0 < length bytes → (get_or bytes 0 0 ≡ 255 → ⊥) → (n : Numeral) × IsNumeral n × (bytes_of n ≡ bytes) → subscript_fault bytes ≡ None
+subscript_fault-encoded bytes some h n = subscript_fault-number bytes some h ((bytes_test bytes).1 n)
 
-pub is_number_some : (o : Option Number) (bytes : List ℕ) → IfSome o (λ n. bytes_of (numeral_of n) ≡ bytes) → OnTrue (is_some o) (is_number_bytes bytes ≡ true)
-is_number_some None bytes h = OnTrue_from false (is_number_bytes bytes ≡ true) (λ e. absurd (false≢true e))
-is_number_some (Some n) bytes h = OnTrue_from true (is_number_bytes bytes ≡ true) (λ e. (bytes_test bytes).1 (numeral_of n, n.is_numeral, h))
+pub subscript_fault-escaped : (bytes : List ℕ) → 0 < length bytes → (text : List ℕ) × (unescaped bytes ≡ Some text) × ((n : Numeral) → IsNumeral n → text_of n ≡ text → ⊥) → subscript_fault (255 ∷ bytes) ≡ None
+subscript_fault-escaped bytes some (text, e, other) =
+    subscript_fault-text bytes text some e
+    (false_from_ne_true (is_number_text text) (λ t. let f = (text_test text).0 t in other f.0 f.1 f.2))
 
-pub no_number_none : (o : Option Number) (text : List ℕ) (t : Bool) → is_some o ≡ not t → IfNone o ((n : Numeral) → IsNumeral n → text_of n ≡ text → ⊥) → OnTrue t (is_number_text text ≡ false)
-no_number_none None text t e h = OnTrue_from t (is_number_text text ≡ false) (λ _. no_number-none text h)
-no_number_none (Some n) text true e h = absurd (false≢true (sym e))
-no_number_none (Some n) text false e h = OnTrue_from false (is_number_text text ≡ false) (λ f. absurd (false≢true f))
+pub subscript_fault-word : (bytes : List ℕ) → 0 < length bytes → All (λ b. 1 < b) bytes → begins_number (slice_index bytes 0) ≡ false → subscript_fault (255 ∷ bytes) ≡ None
+subscript_fault-word bytes some plain begun =
+    subscript_fault-text bytes bytes some (unescaped-plain bytes (recursion_from_All (λ b. 1 < b) bytes plain)) (no_number-begun bytes begun)
 
 pub some_from : (n : ℕ) (t : Bool) → t ≡ (n == 0) → t ≡ false → 0 < n
 some_from n t e f = let other = eqb-false n 0 (sym e ∙ f) in omega arith

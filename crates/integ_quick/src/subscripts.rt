@@ -1,13 +1,13 @@
-ghost use Rattle.std.specs.Prelude.{◌≡◌, ◌≤◌, ◌<◌, ◌++◌, ◌∷◌, length, All, None, true, false, IfSome};
+ghost use Rattle.std.specs.Prelude.{◌≡◌, ◌≤◌, ◌<◌, ◌++◌, ◌∷◌, length, slice_index, All, None, false, IfSome};
 ghost use Rattle.std.specs.Bool.{OnTrue};
 ghost use Rattle.m_key.proofs.ZeroLemmas.{NoZero};
-ghost use Rattle.gds_law.specs.Number.{is_number_text, is_number_bytes};
 ghost use Rattle.gds_law.specs.Key.{subscript_fault};
 ghost use Rattle.integ_quick.specs.Subscripts.{AreSubscripts, IsStart, begins_number};
 
-use m_number::{decode, parse_canonical};
+use m_key::is_escaped_text;
+use m_number::is_encoded;
 
-/// Whether these are right subscripts, each ended by a 0, and one more 0. Of a string with escapes it isn't known.
+/// Whether these are right subscripts, each ended by a 0, and one more 0. 
 pub(crate) fn are_subscripts(bytes: &[u8]) -> bool
     ensures { OnTrue result (AreSubscripts bytes.now) }
 {
@@ -39,46 +39,33 @@ fn is_right(part: &[u8]) -> bool
     ensures { OnTrue result (subscript_fault part.now ≡ None) }
 {
     if part[0] == 0xFF {
-        is_plain_text(&part[1..])
+        is_right_text(&part[1..])
     } else {
-        is_number(part)
+        is_encoded(part)
     }
 }
 
-// Whether a number has these bytes.
-fn is_number(bytes: &[u8]) -> bool
-    ensures { OnTrue result (is_number_bytes bytes.now ≡ true) }
+// Whether nothing is wrong with a string that has these bytes.
+fn is_right_text(bytes: &[u8]) -> bool
+    ensures { OnTrue result (subscript_fault (255 ∷ bytes.now) ≡ None) }
 {
-    decode(bytes).is_some()
-}
-
-// Whether a string without escapes has these bytes.
-fn is_plain_text(text: &[u8]) -> bool
-    ensures { OnTrue result (subscript_fault (255 ∷ text.now) ≡ None) }
-{
-    if text.is_empty() || !are_plain(text) {
+    if bytes.is_empty() {
         return false;
     }
-    is_no_number(text)
+    is_word(bytes) || is_escaped_text(bytes)
 }
 
-// Whether these bytes need no escape.
-fn are_plain(text: &[u8]) -> bool
-    ensures { OnTrue result (All (λ b. 1 < b) text.now) }
+// Whether these bytes need no escape, and no number's text begins with the first of them.
+fn is_word(bytes: &[u8]) -> bool
+    requires { 0 < length bytes.now }
+    ensures plain { OnTrue result (All (λ b. 1 < b) bytes.now) }
+    ensures no_number { OnTrue result (begins_number (slice_index bytes.now 0) ≡ false) }
 {
-    text.iter().all(|b| *b > 1)
-}
-
-// Whether these bytes are no number's text.
-fn is_no_number(text: &[u8]) -> bool
-    requires { 0 < length text.now }
-    ensures { OnTrue result (is_number_text text.now ≡ false) }
-{
-    !can_begin_number(text[0]) || parse_canonical(text).is_none()
+    !begins_number(bytes[0]) && bytes.iter().all(|b| *b > 1)
 }
 
 // Whether a number's text can begin with this byte.
-fn can_begin_number(byte: u8) -> bool
+fn begins_number(byte: u8) -> bool
     ensures { result ≡ begins_number byte }
 {
     byte == b'-' || byte == b'.' || byte.is_ascii_digit()

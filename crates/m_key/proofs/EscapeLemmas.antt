@@ -7,7 +7,8 @@ use Rattle.std.specs.Cmp.Lexicographic.{slice_cmp}
 use Rattle.std.proofs.lemmas.Bool.Decides.{nat_tests}
 use Rattle.std.specs.FinMap.{slice_cmp-IsAntisymmetric, nat_cmp-IsAntisymmetric}
 use Rattle.m_key.specs.Key.{escaped}
-use Rattle.m_key.proofs.ZeroLemmas.{NoZero, NoZero-append, cmp-same, nat_cmp_less, nat_cmp_same, nat_cmp_greater}
+use Rattle.m_key.proofs.ZeroLemmas.{NoZero, NoZero-append, cmp-same}
+use Rattle.m_number.proofs.OrderingLemmas.{nat_cmp_less, nat_cmp_same, nat_cmp_greater}
 
 -- a byte is 0 or 1, which have two bytes each, or stands for itself
 data Escaped (b : ℕ) : Type 0 where

@@ -19,9 +19,10 @@ use Rattle.m_key.specs.Node.{Node, NodeSubscript, number, string, is_word, IsSub
 use Rattle.m_key.specs.Key.{escaped, subscript_bytes, ended, lead_bytes, key_bytes, past_bytes}
 use Rattle.m_key.specs.Collation.{subscript_cmp, reference_cmp, Leads}
 use Rattle.m_key.specs.Globals.{is_led}
-use Rattle.m_key.proofs.ZeroLemmas.{NoZero, nat_cmp_less, nat_cmp_greater, cmp-ended, split-ended, cmp-same, cmp-prefix}
+use Rattle.m_key.proofs.ZeroLemmas.{NoZero, cmp-ended, split-ended, cmp-same, cmp-prefix}
 use Rattle.m_key.proofs.ZeroLemmas.{zero_least, le_front, begins-from, between_begins}
 use Rattle.m_key.proofs.EscapeLemmas.{cmp-escaped, NoZero-escaped, escaped-injective}
+use Rattle.m_number.proofs.OrderingLemmas.{nat_cmp_less, nat_cmp_greater}
 
 -- what is known of the bytes of numbers
 pub record NumberLaws : Type 0 where

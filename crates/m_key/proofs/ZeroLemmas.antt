@@ -6,6 +6,7 @@ use Rattle.std.specs.Cmp.Lexicographic.{slice_cmp}
 use Rattle.std.specs.List.{AllByRecursion}
 use Rattle.std.proofs.lemmas.Bool.{cases_order}
 use Rattle.std.proofs.lemmas.Bool.Decides.{nat_tests}
+use Rattle.m_number.proofs.OrderingLemmas.{nat_cmp_less, nat_cmp_same, nat_cmp_greater, then_assoc}
 
 abbrev pub NoZero : List ℕ → Type 0
 NoZero xs = AllByRecursion (λ b. 0 < b) xs
@@ -13,20 +14,6 @@ NoZero xs = AllByRecursion (λ b. 0 < b) xs
 pub NoZero-append : (a b : List ℕ) → NoZero a → NoZero b → NoZero (a ++ b)
 NoZero-append [] b p q = q
 NoZero-append (x ∷ xs) b p q = (p.0, NoZero-append xs b p.1 q)
-
-pub nat_cmp_less : (x y : ℕ) → x < y → nat_cmp x y ≡ Less
-nat_cmp_less x y h = grind (arith, nat_tests)
-
-pub nat_cmp_same : (x : ℕ) → nat_cmp x x ≡ Equal
-nat_cmp_same x = grind (arith, nat_tests)
-
-pub nat_cmp_greater : (x y : ℕ) → y < x → nat_cmp x y ≡ Greater
-nat_cmp_greater x y h = grind (arith, nat_tests)
-
-pub then_assoc : (p q r : Ordering) → ordering_then (ordering_then p q) r ≡ ordering_then p (ordering_then q r)
-then_assoc Less q r = refl
-then_assoc Equal q r = refl
-then_assoc Greater q r = refl
 
 -- comparing what 0 ends is comparing that, and then the rest
 pub cmp-ended : (a b x y : List ℕ) → NoZero a → NoZero b

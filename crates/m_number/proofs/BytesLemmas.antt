@@ -17,6 +17,8 @@ use Rattle.std.proofs.lemmas.Map.Lookups.{exact_signed, exact_bytes, exact_unsig
 use Rattle.m_number.specs.Numeral.{Numeral, IsNumeral}
 use Rattle.m_number.specs.Bytes.{first_byte, pairs_of, complement, size_bytes, bytes_of}
 use Rattle.m_number.specs.Order.{size_cmp, number_cmp}
+use Rattle.m_number.proofs.OrderingLemmas.{nat_cmp_less, nat_cmp_equal, nat_cmp_greater, then_assoc}
+use Rattle.std.proofs.lemmas.Bool.Decides.{nat_tests}
 
 -- digits, each below 10
 abbrev pub Decimal : List ℕ → Type 0
@@ -43,20 +45,6 @@ ends_well (d ∷ e ∷ ds) h = ends_well (e ∷ ds) (λ l. rw last_cons at (h (o
 pub ends_tail : (d : ℕ) (ds : List ℕ) → EndsWell (d ∷ ds) → EndsWell ds
 ends_tail d [] h = tt
 ends_tail d (e ∷ ds) h = h
-
-then_assoc : (o p q : Ordering) → ordering_then (ordering_then o p) q ≡ ordering_then o (ordering_then p q)
-then_assoc Less p q = refl
-then_assoc Equal p q = refl
-then_assoc Greater p q = refl
-
-pub is_less : (a b : ℕ) → a < b → nat_cmp a b ≡ Less
-is_less a b h = sym (nat_cmp_is a b Less h)
-
-pub is_equal : (a b : ℕ) → a ≡ b → nat_cmp a b ≡ Equal
-is_equal a b h = sym (nat_cmp_is a b Equal h)
-
-pub is_greater : (a b : ℕ) → b < a → nat_cmp a b ≡ Greater
-is_greater a b h = sym (nat_cmp_is a b Greater h)
 
 -- a packed pair compares as its first digit and then its second
 packed_rank : (a b c d : ℕ) → b < 16 → d < 16 → (o p : Ordering) → MatchOrdering o (a < c) (a ≡ c) (c < a)
@@ -88,31 +76,31 @@ half_cmp a c = sym (nat_cmp_is (16 * a + 1) (16 * c + 1) (nat_cmp a c) (half_ran
 ends_less : (a c d : ℕ) (ys : List ℕ) → EndsWell (d ∷ ys) → a ≡ c
     → ordering_then (nat_cmp (16 * a + 1) (16 * c + d + 1)) (slice_cmp nat_cmp [] (pairs_of ys)) ≡ Less
 ends_less a c zero [] ends e = absurd (omega arith)
-ends_less a c (suc d) ys ends e = rw (is_less (16 * a + 1) (16 * c + suc d + 1) (omega arith)) refl
-ends_less a c zero (y ∷ []) ends e = rw (is_equal (16 * a + 1) (16 * c + 0 + 1) (omega arith)) refl
-ends_less a c zero (y ∷ z ∷ ys) ends e = rw (is_equal (16 * a + 1) (16 * c + 0 + 1) (omega arith)) refl
+ends_less a c (suc d) ys ends e = rw (nat_cmp_less (16 * a + 1) (16 * c + suc d + 1) (omega arith)) refl
+ends_less a c zero (y ∷ []) ends e = rw (nat_cmp_equal (16 * a + 1) (16 * c + 0 + 1) (omega arith)) refl
+ends_less a c zero (y ∷ z ∷ ys) ends e = rw (nat_cmp_equal (16 * a + 1) (16 * c + 0 + 1) (omega arith)) refl
 
 shorter_cmp : (a c d : ℕ) (ys : List ℕ) → d < 16 → EndsWell (d ∷ ys) → (o : Ordering)
     → MatchOrdering o (a < c) (a ≡ c) (c < a)
     → ordering_then (nat_cmp (16 * a + 1) (16 * c + d + 1)) (slice_cmp nat_cmp [] (pairs_of ys)) ≡ ordering_then o Less
-shorter_cmp a c d ys hd ends Less h = rw (is_less (16 * a + 1) (16 * c + d + 1) (omega arith)) refl
+shorter_cmp a c d ys hd ends Less h = rw (nat_cmp_less (16 * a + 1) (16 * c + d + 1) (omega arith)) refl
 shorter_cmp a c d ys hd ends Equal h = ends_less a c d ys ends h
-shorter_cmp a c d ys hd ends Greater h = rw (is_greater (16 * a + 1) (16 * c + d + 1) (omega arith)) refl
+shorter_cmp a c d ys hd ends Greater h = rw (nat_cmp_greater (16 * a + 1) (16 * c + d + 1) (omega arith)) refl
 
 goes_on : (a b c : ℕ) (xs : List ℕ) → EndsWell (b ∷ xs) → a ≡ c
     → ordering_then (nat_cmp (16 * a + b + 1) (16 * c + 1)) (slice_cmp nat_cmp (pairs_of xs) []) ≡ Greater
 goes_on a zero c [] ends e = absurd (omega arith)
-goes_on a (suc b) c xs ends e = rw (is_greater (16 * a + suc b + 1) (16 * c + 1) (omega arith)) refl
-goes_on a zero c (x ∷ []) ends e = rw (is_equal (16 * a + 0 + 1) (16 * c + 1) (omega arith)) refl
-goes_on a zero c (x ∷ z ∷ xs) ends e = rw (is_equal (16 * a + 0 + 1) (16 * c + 1) (omega arith)) refl
+goes_on a (suc b) c xs ends e = rw (nat_cmp_greater (16 * a + suc b + 1) (16 * c + 1) (omega arith)) refl
+goes_on a zero c (x ∷ []) ends e = rw (nat_cmp_equal (16 * a + 0 + 1) (16 * c + 1) (omega arith)) refl
+goes_on a zero c (x ∷ z ∷ xs) ends e = rw (nat_cmp_equal (16 * a + 0 + 1) (16 * c + 1) (omega arith)) refl
 
 longer_cmp : (a b c : ℕ) (xs : List ℕ) → b < 16 → EndsWell (b ∷ xs) → (o : Ordering)
     → MatchOrdering o (a < c) (a ≡ c) (c < a)
     → ordering_then (nat_cmp (16 * a + b + 1) (16 * c + 1)) (slice_cmp nat_cmp (pairs_of xs) [])
     ≡ ordering_then o Greater
-longer_cmp a b c xs hb ends Less h = rw (is_less (16 * a + b + 1) (16 * c + 1) (omega arith)) refl
+longer_cmp a b c xs hb ends Less h = rw (nat_cmp_less (16 * a + b + 1) (16 * c + 1) (omega arith)) refl
 longer_cmp a b c xs hb ends Equal h = goes_on a b c xs ends h
-longer_cmp a b c xs hb ends Greater h = rw (is_greater (16 * a + b + 1) (16 * c + 1) (omega arith)) refl
+longer_cmp a b c xs hb ends Greater h = rw (nat_cmp_greater (16 * a + b + 1) (16 * c + 1) (omega arith)) refl
 
 pub pairs_cmp : (xs ys : List ℕ) → Decimal xs → Decimal ys → EndsWell xs → EndsWell ys
     → slice_cmp nat_cmp (pairs_of xs) (pairs_of ys) ≡ slice_cmp nat_cmp xs ys
@@ -154,8 +142,8 @@ flipped_cmp x y hx hy =
 pub complement_cmp : (xs ys : List ℕ) → AllByRecursion IsInner xs → AllByRecursion IsInner ys
     → slice_cmp nat_cmp (complement xs ++ 255 ∷ []) (complement ys ++ 255 ∷ []) ≡ slice_cmp nat_cmp ys xs
 complement_cmp [] [] hx hy = refl
-complement_cmp [] (y ∷ ys) hx hy = rw (is_greater 255 (255 - y) (omega (arith, hy.0.0))) refl
-complement_cmp (x ∷ xs) [] hx hy = rw (is_less (255 - x) 255 (omega (arith, hx.0.0))) refl
+complement_cmp [] (y ∷ ys) hx hy = rw (nat_cmp_greater 255 (255 - y) (omega (arith, hy.0.0))) refl
+complement_cmp (x ∷ xs) [] hx hy = rw (nat_cmp_less (255 - x) 255 (omega (arith, hx.0.0))) refl
 complement_cmp (x ∷ xs) (y ∷ ys) hx hy =
     ap (λ o. ordering_then o (slice_cmp nat_cmp (complement xs ++ 255 ∷ []) (complement ys ++ 255 ∷ [])))
     (flipped_cmp x y hx.0.1 hy.0.1)
@@ -197,6 +185,9 @@ size_inner n h =
     let f = first_within n.exponent h.least h.greatest in
     ((omega (arith, f.0), omega (arith, f.1)), pairs_inner n.digits (decimal_of n h))
 
+pub some_from : (n : ℕ) → eqb n 0 ≡ false → 0 < n
+some_from n t = grind (arith, nat_tests)
+
 -- the bytes by whether the number is zero, and by its sign
 abbrev pub bytes_by : Bool → Bool → Numeral → List ℕ
 bytes_by none negative n = cond none (128 ∷ []) (cond negative (complement (size_bytes n) ++ 255 ∷ []) (size_bytes n))
@@ -223,26 +214,26 @@ order_by a b ha hb true true na nb ea eb =
     sym (both_equal na (size_cmp b a) (size_cmp a b) (zero_cmp b a hb ha lb la) (zero_cmp a b ha hb la lb))
 order_by a b ha hb true false na true ea eb =
     let f = first_within b.exponent hb.least hb.greatest in
-    rw (is_greater 128 (255 - first_byte b.exponent) (omega (arith, f.0))) refl
+    rw (nat_cmp_greater 128 (255 - first_byte b.exponent) (omega (arith, f.0))) refl
 order_by a b ha hb true false na false ea eb =
     let f = first_within b.exponent hb.least hb.greatest in
-    rw (is_less 128 (first_byte b.exponent) (omega (arith, f.0))) refl
+    rw (nat_cmp_less 128 (first_byte b.exponent) (omega (arith, f.0))) refl
 order_by a b ha hb false true true nb ea eb =
     let f = first_within a.exponent ha.least ha.greatest in
-    rw (is_less (255 - first_byte a.exponent) 128 (omega (arith, f.0))) refl
+    rw (nat_cmp_less (255 - first_byte a.exponent) 128 (omega (arith, f.0))) refl
 order_by a b ha hb false true false nb ea eb =
     let f = first_within a.exponent ha.least ha.greatest in
-    rw (is_greater (first_byte a.exponent) 128 (omega (arith, f.0))) refl
+    rw (nat_cmp_greater (first_byte a.exponent) 128 (omega (arith, f.0))) refl
 order_by a b ha hb false false true true ea eb =
     complement_cmp (size_bytes a) (size_bytes b) (size_inner a ha) (size_inner b hb) ∙ sizes_cmp b a hb ha
 order_by a b ha hb false false true false ea eb =
     let f = first_within a.exponent ha.least ha.greatest in
     let g = first_within b.exponent hb.least hb.greatest in
-    rw (is_less (255 - first_byte a.exponent) (first_byte b.exponent) (omega (arith, f.0, g.0))) refl
+    rw (nat_cmp_less (255 - first_byte a.exponent) (first_byte b.exponent) (omega (arith, f.0, g.0))) refl
 order_by a b ha hb false false false true ea eb =
     let f = first_within a.exponent ha.least ha.greatest in
     let g = first_within b.exponent hb.least hb.greatest in
-    rw (is_greater (first_byte a.exponent) (255 - first_byte b.exponent) (omega (arith, f.0, g.0))) refl
+    rw (nat_cmp_greater (first_byte a.exponent) (255 - first_byte b.exponent) (omega (arith, f.0, g.0))) refl
 order_by a b ha hb false false false false ea eb = sizes_cmp a b ha hb
 
 pub bytes_in_order : (a b : Numeral) → IsNumeral a → IsNumeral b

@@ -1,3 +1,4 @@
+pub mod OrderingLemmas
 pub mod TextLemmas
 pub mod BytesLemmas
 pub mod PackedLemmas

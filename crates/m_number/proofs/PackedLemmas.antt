@@ -11,7 +11,7 @@ use Rattle.std.proofs.lemmas.List.{append-nil, map-id, take_at, drop_more, same_
 use Rattle.m_number.specs.Numeral.{Numeral, IsNumeral}
 use Rattle.m_number.specs.Bytes.{first_byte, pairs_of, complement, size_bytes, bytes_of}
 use Rattle.m_number.specs.Packed.{signed_byte, pair_of, unfilled}
-use Rattle.m_number.proofs.BytesLemmas.{Decimal, decimal_of, bytes_by, first_within}
+use Rattle.m_number.proofs.BytesLemmas.{Decimal, decimal_of, bytes_by, first_within, some_from}
 
 -- what the pairs lack is the 0 that fills the last of them
 abbrev filling : List ℕ → List ℕ
@@ -110,9 +110,6 @@ zero_shape_by n h false false t rest e =
 pub zero_shape : (n : Numeral) → IsNumeral n → (rest : List ℕ) → bytes_of n ≡ 128 ∷ rest → length n.digits ≡ 0
 unfolding bytes_of
 zero_shape n h rest e = zero_shape_by n h (eqb (length n.digits) 0) n.negative refl rest e
-
-some_from : (n : ℕ) → eqb n 0 ≡ false → 0 < n
-some_from n t = grind (arith, nat_tests)
 
 plus_shape_by : (n : Numeral) → IsNumeral n → (none negative : Bool) → eqb (length n.digits) 0 ≡ none
     → n.negative ≡ negative → (b : ℕ) (rest : List ℕ) → 128 < b → bytes_by none negative n ≡ b ∷ rest

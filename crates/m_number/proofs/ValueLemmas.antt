@@ -16,8 +16,9 @@ use Rattle.std.proofs.lemmas.List.{nil_from_length}
 use Rattle.m_number.specs.Numeral.{Numeral, IsNumeral}
 use Rattle.m_number.specs.Order.{size_cmp, number_cmp}
 use Rattle.m_number.specs.Value.{scaled, power_of, size_value, value_of}
-use Rattle.m_number.proofs.BytesLemmas.{Decimal, EndsWell, ends_well, ends_tail, decimal_of, is_less, is_equal}
-use Rattle.m_number.proofs.BytesLemmas.{is_greater, zero_cmp, side_by}
+use Rattle.m_number.proofs.BytesLemmas.{Decimal, EndsWell, ends_well, ends_tail, decimal_of, some_from}
+use Rattle.m_number.proofs.BytesLemmas.{zero_cmp, side_by}
+use Rattle.m_number.proofs.OrderingLemmas.{nat_cmp_less, nat_cmp_equal, nat_cmp_greater}
 
 next : (k : ℕ) → 10 ^ suc k ≡ 10 * 10 ^ k
 next k =
@@ -105,9 +106,9 @@ scaled_cmp : (xs ys : List ℕ) (k : ℕ) → Decimal xs → Decimal ys → Ends
     → length ys ≤ k + 1 → nat_cmp (scaled xs k) (scaled ys k) ≡ slice_cmp nat_cmp xs ys
 scaled_cmp [] [] k dx dy ex ey lx ly = refl
 scaled_cmp [] (d ∷ ds) k dx dy ex ey lx ly =
-    is_less 0 (scaled (d ∷ ds) k) (scaled_positive (d ∷ ds) k (omega arith) ey ly)
+    nat_cmp_less 0 (scaled (d ∷ ds) k) (scaled_positive (d ∷ ds) k (omega arith) ey ly)
 scaled_cmp (c ∷ cs) [] k dx dy ex ey lx ly =
-    is_greater (scaled (c ∷ cs) k) 0 (scaled_positive (c ∷ cs) k (omega arith) ex lx)
+    nat_cmp_greater (scaled (c ∷ cs) k) 0 (scaled_positive (c ∷ cs) k (omega arith) ex lx)
 scaled_cmp (c ∷ []) (d ∷ []) zero dx dy ex ey lx ly = step_cmp c d (10 ^ 0) 0 0 (positive 0) (positive 0)
 scaled_cmp (c ∷ []) (d ∷ e ∷ ds) zero dx dy ex ey lx ly = absurd (omega arith)
 scaled_cmp (c ∷ e ∷ cs) (d ∷ ds) zero dx dy ex ey lx ly = absurd (omega arith)
@@ -146,14 +147,14 @@ apart a b ha hb some h =
 by_exponent : (a b : Numeral) → IsNumeral a → IsNumeral b → 0 < length a.digits → 0 < length b.digits → (o : Ordering)
     → MatchOrdering o (a.exponent <ℤ b.exponent) (a.exponent ≡ b.exponent) (b.exponent <ℤ a.exponent)
     → nat_cmp (size_value a) (size_value b) ≡ ordering_then o (slice_cmp nat_cmp a.digits b.digits)
-by_exponent a b ha hb sa sb Less h = is_less (size_value a) (size_value b) (apart a b ha hb sb h)
+by_exponent a b ha hb sa sb Less h = nat_cmp_less (size_value a) (size_value b) (apart a b ha hb sb h)
 by_exponent a b ha hb sa sb Equal h =
     let e = ap power_of h in
     let l = long_enough a ha in
     ap (λ (k : ℕ). nat_cmp (scaled a.digits k) (size_value b)) e
     ∙ scaled_cmp a.digits b.digits (power_of b.exponent) (decimal_of a ha) (decimal_of b hb)
     (ends_well a.digits ha.last) (ends_well b.digits hb.last) (omega arith) (long_enough b hb)
-by_exponent a b ha hb sa sb Greater h = is_greater (size_value a) (size_value b) (apart b a hb ha sa h)
+by_exponent a b ha hb sa sb Greater h = nat_cmp_greater (size_value a) (size_value b) (apart b a hb ha sa h)
 
 size_value_cmp : (a b : Numeral) → IsNumeral a → IsNumeral b → 0 < length a.digits → 0 < length b.digits
     → nat_cmp (size_value a) (size_value b) ≡ size_cmp a b
@@ -186,9 +187,6 @@ minus_cmp : (s t : ℕ) → int_cmp (neg_ℤ (pos s)) (neg_ℤ (pos t)) ≡ nat_
 minus_cmp s t =
     sym (int_cmp_is (neg_ℤ (pos s)) (neg_ℤ (pos t)) (nat_cmp t s) (minus_rank s t (nat_cmp t s) (ranks t s)))
 
-some_digits_of : (k : ℕ) → eqb k 0 ≡ false → 0 < k
-some_digits_of k t = grind (arith, nat_tests)
-
 -- the value by the sign
 abbrev value_by : Bool → Numeral → ℤ
 value_by negative n = cond negative (neg_ℤ (pos (size_value n))) (pos (size_value n))
@@ -203,37 +201,37 @@ value_order_by a b ha hb za true na true ea eb sa sb =
     absurd (true≢false (sym sb ∙ hb.zero_sign (eqb-true (length b.digits) 0 eb)))
 value_order_by a b ha hb false false true true ea eb sa sb =
     minus_cmp (size_value a) (size_value b)
-    ∙ size_value_cmp b a hb ha (some_digits_of (length b.digits) eb) (some_digits_of (length a.digits) ea)
+    ∙ size_value_cmp b a hb ha (some_from (length b.digits) eb) (some_from (length a.digits) ea)
 value_order_by a b ha hb false true true false ea eb sa sb =
-    let p = size_value_positive a ha (some_digits_of (length a.digits) ea) in
+    let p = size_value_positive a ha (some_from (length a.digits) ea) in
     sym (int_cmp_is (neg_ℤ (pos (size_value a))) (pos (size_value b)) Less (omega (arith, ints)))
 value_order_by a b ha hb false false true false ea eb sa sb =
-    let p = size_value_positive a ha (some_digits_of (length a.digits) ea) in
+    let p = size_value_positive a ha (some_from (length a.digits) ea) in
     sym (int_cmp_is (neg_ℤ (pos (size_value a))) (pos (size_value b)) Less (omega (arith, ints)))
 value_order_by a b ha hb true false false true ea eb sa sb =
-    let p = size_value_positive b hb (some_digits_of (length b.digits) eb) in
+    let p = size_value_positive b hb (some_from (length b.digits) eb) in
     sym (int_cmp_is (pos (size_value a)) (neg_ℤ (pos (size_value b))) Greater (omega (arith, ints)))
 value_order_by a b ha hb false false false true ea eb sa sb =
-    let p = size_value_positive b hb (some_digits_of (length b.digits) eb) in
+    let p = size_value_positive b hb (some_from (length b.digits) eb) in
     sym (int_cmp_is (pos (size_value a)) (neg_ℤ (pos (size_value b))) Greater (omega (arith, ints)))
 value_order_by a b ha hb true true false false ea eb sa sb =
     let la = eqb-true (length a.digits) 0 ea in
     let lb = eqb-true (length b.digits) 0 eb in
     let ta = size_value_zero a la in
     let tb = size_value_zero b lb in
-    plus_cmp (size_value a) (size_value b) ∙ is_equal (size_value a) (size_value b) (ta ∙ sym tb)
+    plus_cmp (size_value a) (size_value b) ∙ nat_cmp_equal (size_value a) (size_value b) (ta ∙ sym tb)
     ∙ sym (zero_cmp a b ha hb la lb)
 value_order_by a b ha hb true false false false ea eb sa sb =
     let t = size_value_zero a (eqb-true (length a.digits) 0 ea) in
-    let p = size_value_positive b hb (some_digits_of (length b.digits) eb) in
-    plus_cmp (size_value a) (size_value b) ∙ is_less (size_value a) (size_value b) (omega arith)
+    let p = size_value_positive b hb (some_from (length b.digits) eb) in
+    plus_cmp (size_value a) (size_value b) ∙ nat_cmp_less (size_value a) (size_value b) (omega arith)
 value_order_by a b ha hb false true false false ea eb sa sb =
     let t = size_value_zero b (eqb-true (length b.digits) 0 eb) in
-    let p = size_value_positive a ha (some_digits_of (length a.digits) ea) in
-    plus_cmp (size_value a) (size_value b) ∙ is_greater (size_value a) (size_value b) (omega arith)
+    let p = size_value_positive a ha (some_from (length a.digits) ea) in
+    plus_cmp (size_value a) (size_value b) ∙ nat_cmp_greater (size_value a) (size_value b) (omega arith)
 value_order_by a b ha hb false false false false ea eb sa sb =
     plus_cmp (size_value a) (size_value b)
-    ∙ size_value_cmp a b ha hb (some_digits_of (length a.digits) ea) (some_digits_of (length b.digits) eb)
+    ∙ size_value_cmp a b ha hb (some_from (length a.digits) ea) (some_from (length b.digits) eb)
 
 pub values_in_order : (a b : Numeral) → IsNumeral a → IsNumeral b → int_cmp (value_of a) (value_of b) ≡ number_cmp a b
 unfolding number_cmp

@@ -6,8 +6,6 @@ mod digits;
 mod encoded;
 mod laws;
 mod number;
-#[cfg(test)]
-mod tests;
 mod text;
 
 pub use bytes::{decode, encode};

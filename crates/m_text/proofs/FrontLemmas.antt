@@ -37,14 +37,6 @@ prefix_len-append p (x ∷ xs) rest all ended =
     let both = and_parts (p x) (list_all p xs) all in
     prefix_len-yes p x (xs ++ rest) both.0 ∙ ap (λ (n : ℕ). suc n) (prefix_len-append p xs rest both.1 ended)
 
--- a byte taken off the front, or not there
-front_off : (x : ℕ) (s rest : List ℕ) → take 1 s ≡ x ∷ [] → rest ≡ drop 1 s → s ≡ x ∷ rest
-front_off x [] rest t r = cc
-front_off x (b ∷ bs) rest t r = cc
-
-pub front_taken : (x : ℕ) (s rest : List ℕ) → bytes_eq (take 1 s) (x ∷ []) ≡ true → rest ≡ drop 1 s → s ≡ x ∷ rest
-front_taken x s rest t r = front_off x s rest ((bytes_eq-Decides (take 1 s) (x ∷ [])).0 t) r
-
 pub no_front : (x : ℕ) (s : List ℕ) → bytes_eq (take 1 s) (x ∷ []) ≡ false → leads x s ≡ false
 no_front x [] t = refl
 no_front x (b ∷ bs) t =

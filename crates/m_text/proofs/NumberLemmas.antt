@@ -1,12 +1,14 @@
 -- The bytes of a number's text.
 use Rattle.std.proofs.Common.{◌≡◌, ℕ, zero, suc, ◌+◌, ◌-◌, ◌<◌, ℤ, pos, negsuc, Bool, true, false, ◌&&◌, eqb, leb, List}
 use Rattle.std.proofs.Common.{[], ◌∷◌, ◌++◌, length, take, drop, replicate, refl, ap, ◌∙◌, arith, ⊎_elim}
-use Rattle.std.proofs.lemmas.Bool.{cond-true, cases_Bool, cond-false}
+use Rattle.std.proofs.lemmas.Bool.{cond-true, cases_Bool, cond-false, and_parts}
 use Rattle.std.specs.List.{list_all, AllByRecursion, All}
 use Rattle.std.proofs.lemmas.List.Elements.{recursion_from_All, All-take, All-drop}
 use Rattle.m_number.specs.Numeral.{Numeral, IsNumeral}
 use Rattle.m_number.specs.Text.{text_of, size_text, nonzero_text, large_text, codes_of}
 use Rattle.m_text.specs.Reading.{is_number_byte}
+use Rattle.std.specs.Char.{is_ascii_digit}
+use Rattle.std.specs.Prelude.{◌==◌, ◌||◌}
 
 all_both : (xs ys : List ℕ) → list_all is_number_byte xs ≡ true → list_all is_number_byte ys ≡ true
     → list_all is_number_byte (xs ++ ys) ≡ true
@@ -14,24 +16,26 @@ all_both [] ys a b = b
 all_both (x ∷ xs) ys a b =
     let h = and_parts (is_number_byte x) (list_all is_number_byte xs) a in
     ap (λ (t : Bool). t && list_all is_number_byte (xs ++ ys)) h.0 ∙ all_both xs ys h.1 b
-  where
-    and_parts : (a b : Bool) → (a && b) ≡ true → (a ≡ true) × (b ≡ true)
-    and_parts true true e = (refl, refl)
-    and_parts true false e = cc
-    and_parts false b e = cc
+
+pub digit_pass : (d : ℕ) → d < 10 → is_ascii_digit (48 + d) ≡ true
+digit_pass zero l = refl
+digit_pass (suc zero) l = refl
+digit_pass (suc (suc zero)) l = refl
+digit_pass (suc (suc (suc zero))) l = refl
+digit_pass (suc (suc (suc (suc zero)))) l = refl
+digit_pass (suc (suc (suc (suc (suc zero))))) l = refl
+digit_pass (suc (suc (suc (suc (suc (suc zero)))))) l = refl
+digit_pass (suc (suc (suc (suc (suc (suc (suc zero))))))) l = refl
+digit_pass (suc (suc (suc (suc (suc (suc (suc (suc zero)))))))) l = refl
+digit_pass (suc (suc (suc (suc (suc (suc (suc (suc (suc zero))))))))) l = refl
+digit_pass (suc (suc (suc (suc (suc (suc (suc (suc (suc (suc d)))))))))) l = absurd (omega (arith, l))
+
+or_last : (t : Bool) → (t || true) ≡ true
+or_last true = refl
+or_last false = refl
 
 digit_code : (d : ℕ) → d < 10 → is_number_byte (48 + d) ≡ true
-digit_code zero l = refl
-digit_code (suc zero) l = refl
-digit_code (suc (suc zero)) l = refl
-digit_code (suc (suc (suc zero))) l = refl
-digit_code (suc (suc (suc (suc zero)))) l = refl
-digit_code (suc (suc (suc (suc (suc zero))))) l = refl
-digit_code (suc (suc (suc (suc (suc (suc zero)))))) l = refl
-digit_code (suc (suc (suc (suc (suc (suc (suc zero))))))) l = refl
-digit_code (suc (suc (suc (suc (suc (suc (suc (suc zero)))))))) l = refl
-digit_code (suc (suc (suc (suc (suc (suc (suc (suc (suc zero))))))))) l = refl
-digit_code (suc (suc (suc (suc (suc (suc (suc (suc (suc (suc d)))))))))) l = absurd (omega (arith, l))
+digit_code d l = ap (λ t. (48 + d == 45 || 48 + d == 46) || t) (digit_pass d l) ∙ or_last (48 + d == 45 || 48 + d == 46)
 
 all_codes : (ds : List ℕ) → AllByRecursion (λ d. d < 10) ds → list_all is_number_byte (codes_of ds) ≡ true
 all_codes [] h = refl

@@ -8,6 +8,7 @@ use Rattle.std.proofs.lemmas.List.{append_assoc, take_at, drop_at, take-append-d
 use Rattle.std.proofs.lemmas.List.Concat.{flat_map_single}
 use Rattle.std.proofs.lemmas.List.Sums.{prefix_len-le-length}
 use Rattle.std.proofs.lemmas.Bool.{eqb-true, leb-true, le-leb, false_from_ne_true, cond-true, cases_Bool, cond-false}
+use Rattle.std.proofs.lemmas.Bool.{and_from}
 use Rattle.std.proofs.lemmas.Bool.{and_parts}
 use Rattle.m_text.specs.Grammar.{joined, Word, c, char, zch, zchar, word_text, code_value, IsCode, Piece, quoted, coded}
 use Rattle.m_text.specs.Grammar.{doubled, piece_text, piece_bytes, IsPiece}
@@ -58,9 +59,6 @@ code_at-found text bytes rest e =
     cc)
     (cases_Bool test)
 
-and_both : (a b : Bool) → a ≡ true → b ≡ true → (a && b) ≡ true
-and_both a b p q = ap (λ (x : Bool). x && b) p ∙ q
-
 pub code_at-again : (digits rest : List ℕ) → IsCode digits → heads is_ascii_digit rest ≡ false
     → code_at (digits ++ rest) ≡ Some (one_byte digits, rest)
 code_at-again digits rest right ended =
@@ -72,8 +70,8 @@ code_at-again digits rest right ended =
     let G : List ℕ → List ℕ → Option Found =
     λ t d. cond (leb 1 n && (leb n 3 && leb (code_value t) 255)) (Some (one_byte t, d)) None in
     let test =
-    and_both (leb 1 n) _ (le-leb 1 n right.least)
-    (and_both (leb n 3) _ (le-leb n 3 right.greatest) (le-leb (code_value digits) 255 right.value)) in
+    and_from (leb 1 n) _ (le-leb 1 n right.least)
+    (and_from (leb n 3) _ (le-leb n 3 right.greatest) (le-leb (code_value digits) 255 right.value)) in
     ap F (prefix_len-append is_ascii_digit digits rest right.decimal ended)
     ∙ ap (λ (t : List ℕ). G t (drop n text)) (take_at digits rest n refl)
     ∙ ap (λ (d : List ℕ). G digits d) (drop_at digits rest n refl)
@@ -116,8 +114,8 @@ pub code_at-some : (text : List ℕ) (n : ℕ) → n ≡ prefix_len is_ascii_dig
     → code_value (take n text) ≤ 255 → code_at text ≡ Some (one_byte (take n text), drop n text)
 unfolding code_tested
 code_at-some text n e l m v = counted text n e
-    ∙ cond-true _ _ None (and_both (leb 1 n) _ (le-leb 1 n l)
-    (and_both (leb n 3) _ (le-leb n 3 m) (le-leb (code_value (take n text)) 255 v)))
+    ∙ cond-true _ _ None (and_from (leb 1 n) _ (le-leb 1 n l)
+    (and_from (leb n 3) _ (le-leb n 3 m) (le-leb (code_value (take n text)) 255 v)))
 
 closed_by-found : (front behind bytes rest : List ℕ) → closed_by front behind ≡ Some (bytes, rest)
     → (front ≡ bytes) × (behind ≡ 41 ∷ rest)

@@ -2,7 +2,7 @@
 use Rattle.std.proofs.Common.{◌≡◌, ℕ, zero, suc, ◌+◌, ◌-◌, ◌<◌, ◌≤◌, min, Bool, true, false, ◌&&◌, List, [], ◌∷◌, ◌++◌}
 use Rattle.std.proofs.Common.{length, take, drop, map, refl, sym, ap, ◌∙◌, subst, arith, inl, inr, ◌⊎◌, ⊎_elim}
 use Rattle.std.proofs.Common.{length-append, length-take, add-one}
-use Rattle.std.proofs.lemmas.Bool.{cases_Bool, and_parts}
+use Rattle.std.proofs.lemmas.Bool.{cases_Bool, and_parts, and_from}
 use Rattle.std.specs.List.{prefix_len, list_all, AllByRecursion}
 use Rattle.std.specs.Char.{is_ascii_alphanumeric}
 use Rattle.std.proofs.lemmas.List.{append_assoc, take_at, drop_at, take-append-drop}
@@ -35,9 +35,6 @@ passes_below p (suc k) (x ∷ xs) l =
     (λ (q : p x ≡ false). let none = prefix_len-no p x xs q in absurd (omega (arith, none)))
     (cases_Bool (p x))
 
-and_both : (a b : Bool) → a ≡ true → b ≡ true → (a && b) ≡ true
-and_both a b p q = ap (λ (x : Bool). x && b) p ∙ q
-
 pub name_short : (name text rest : List ℕ) → IsName name → text ≡ name ++ rest → length name ≤ longest_name text
 name_short [] text rest h e = absurd (let w : false ≡ true = h.word in cc)
 name_short (x ∷ xs) text rest h e =
@@ -63,7 +60,7 @@ taken_word x xs text h =
     let cut : take (m + 1) (x ∷ text) ≡ x ∷ take m text = ap (λ (n : ℕ). take n (x ∷ text)) (add-one m) in
     let P : List ℕ → Type 0 = λ t. IsName t in
     subst P (sym cut) (record {
-      word = and_both _ (list_all is_ascii_alphanumeric (take m text)) both.0
+      word = and_from _ (list_all is_ascii_alphanumeric (take m text)) both.0
           (passes_below is_ascii_alphanumeric m text (omega arith));
       count = omega (arith, length-take m text);
     })

@@ -12,19 +12,7 @@ use Rattle.m_text.specs.Grammar.{string, expression_text, expression_bytes, IsEx
 use Rattle.m_text.specs.Grammar.{IsReferenceText}
 use Rattle.m_text.specs.Written.{is_printable, decimal, run_of, led_by, runs_of, pieces_of, value_text, subscript_text}
 use Rattle.m_text.specs.Written.{reference_text}
-
-digit_pass : (d : ℕ) → d < 10 → is_ascii_digit (48 + d) ≡ true
-digit_pass zero l = refl
-digit_pass (suc zero) l = refl
-digit_pass (suc (suc zero)) l = refl
-digit_pass (suc (suc (suc zero))) l = refl
-digit_pass (suc (suc (suc (suc zero)))) l = refl
-digit_pass (suc (suc (suc (suc (suc zero))))) l = refl
-digit_pass (suc (suc (suc (suc (suc (suc zero)))))) l = refl
-digit_pass (suc (suc (suc (suc (suc (suc (suc zero))))))) l = refl
-digit_pass (suc (suc (suc (suc (suc (suc (suc (suc zero)))))))) l = refl
-digit_pass (suc (suc (suc (suc (suc (suc (suc (suc (suc zero))))))))) l = refl
-digit_pass (suc (suc (suc (suc (suc (suc (suc (suc (suc (suc d)))))))))) l = absurd (omega (arith, l))
+use Rattle.m_text.proofs.NumberLemmas.{digit_pass}
 
 -- the digits are the code of this byte
 record Codes (b : ℕ) (digits : List ℕ) : Type 0 where

@@ -1,9 +1,9 @@
 use Rattle.std.proofs.Common.{◌∷◌, [], ◌++◌, List, ℕ, Some, sym, ap, ◌∙◌}
 use Rattle.m_text.specs.Reading.{with_front, code_at}
-use Rattle.m_text.proofs.FrontLemmas.{front_taken}
 use Rattle.m_text.proofs.PieceLemmas.{code_at-shortens}
 use Rattle.m_text.proofs.SeparatedLemmas.{list_step}
 use Rattle.m_text.proofs.reading.read_codes.Goals as goal
+use Rattle.m_number.proofs.TextLemmas.{front_taken}
 
 pub loop-code-preserved : goal.loop-code-preserved
 loop-code-preserved c =

@@ -2,9 +2,10 @@ use Rattle.std.proofs.Common.{◌≡◌, ◌++◌, ◌-◌, List, ℕ, length, t
 use Rattle.std.proofs.lemmas.List.{take_rest}
 use Rattle.m_text.specs.Reading.{with_front, quoted_at}
 use Rattle.m_text.proofs.FoundLemmas.{with_front-none}
-use Rattle.m_text.proofs.FrontLemmas.{front_taken, no_front}
+use Rattle.m_text.proofs.FrontLemmas.{no_front}
 use Rattle.m_text.proofs.QuotedLemmas.{quoted_ends, quoted_goes_on, quoted_at-none}
 use Rattle.m_text.proofs.reading.read_quoted.Goals as goal
+use Rattle.m_number.proofs.TextLemmas.{front_taken}
 
 pub returns-in_default-strip_prefix : goal.returns-in_default-strip_prefix
 returns-in_default-strip_prefix c =

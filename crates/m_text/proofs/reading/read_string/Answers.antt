@@ -1,9 +1,9 @@
 use Rattle.std.proofs.Common.{List, ℕ, Some, sym, ap, ◌∙◌}
 use Rattle.m_text.specs.Reading.{piece_at}
-use Rattle.m_text.proofs.FrontLemmas.{front_taken}
 use Rattle.m_text.proofs.PieceLemmas.{piece_at-shortens}
 use Rattle.m_text.proofs.SeparatedLemmas.{list_step, item_shorter}
 use Rattle.m_text.proofs.reading.read_string.Goals as goal
+use Rattle.m_number.proofs.TextLemmas.{front_taken}
 
 pub loop-after-smaller : goal.loop-after-smaller
 loop-after-smaller c =

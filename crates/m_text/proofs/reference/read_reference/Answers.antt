@@ -3,9 +3,9 @@ use Rattle.m_key.specs.Node.{NodeSubscript}
 use Rattle.m_key.specs.Reference.{node_subscript_of, node_of, is_node, name_bytes}
 use Rattle.m_key.specs.declared.reference.Reference.{Reference}
 use Rattle.m_text.specs.Standing.{ListStandsAt}
-use Rattle.m_text.proofs.FrontLemmas.{front_taken}
 use Rattle.m_text.proofs.ReferenceLemmas.{no_reference, bare_made, list_made, longest_bare, longest_list, list_shorter}
 use Rattle.m_text.proofs.reference.read_reference.Goals as goal
+use Rattle.m_number.proofs.TextLemmas.{front_taken}
 
 pub returns-in_default-read_name-clause-none : goal.returns-in_default-read_name-clause-none
 returns-in_default-read_name-clause-none c =
