@@ -1,4 +1,0 @@
-pub mod Subscripts
-pub mod Record
-pub mod Leaf
-pub mod Head
