@@ -14,8 +14,8 @@ returns-in_err-begin-clause-refused g c x tells =
 pub returns-in_err-step-clause-refused : goal.returns-in_err-step-clause-refused
 returns-in_err-step-clause-refused g c x tells =
     OnErr-any c.from_residual-in_err-step.result _ (λ kept reached ak ar.
-        (c.in_err-step.ensures.on x (c.loop-walker.invariant.image ∙ tells) kept reached (g.F.FaultSink.listed c.args.sink.now) ak ar
-        (c.loop-walker.invariant.on x tells kept reached ak ar)).1)
+    (c.in_err-step.ensures.on x (c.loop-walker.invariant.image ∙ tells) kept reached (g.F.FaultSink.listed c.args.sink.now) ak ar
+    (c.loop-walker.invariant.on x tells kept reached ak ar)).1)
 
 pub loop-walker-preserved : goal.loop-walker-preserved
 loop-walker-preserved g c =
@@ -39,7 +39,7 @@ returns-clause-walked g c x tells =
     let start = g.F.FaultSink.listed c.args.sink.now in
     let now = g.F.FaultSink.listed c.step.new.sink in
     let on = (c.in_ok-step.ensures.on x (c.loop-walker.invariant.image ∙ tells) kept.0 reached.0 start kept.1 reached.1
-        (c.loop-walker.invariant.on x tells kept.0 reached.0 kept.1 reached.1)).0 in
+    (c.loop-walker.invariant.on x tells kept.0 reached.0 kept.1 reached.1)).0 in
     let end = on_end x kept.0 reached.0 kept.1 reached.1 start now (state_of c.step.new.self) (c.in_ok-step.ensures.end c.if-branch.false) on in
     record {
       kept = kept.0;
