@@ -1,6 +1,6 @@
 -- The count of what was taken, and what the source has left, from one moment to the next.
-use Rattle.std.proofs.Common.{◌≡◌, ℕ, ◌+◌, ◌<◌, ◌≤◌, ◌↔◌, List, [], ◌++◌, length, take, Option, None, Some, IfSome, refl, sym}
-use Rattle.std.proofs.Common.{ap, ◌∙◌, arith, append_assoc, length-append, length-take-le}
+use Rattle.std.proofs.Common.{◌≡◌, ℕ, ◌+◌, ◌<◌, ◌≤◌, ◌↔◌, List, [], ◌++◌, length, take, Option, None, Some, IfSome}
+use Rattle.std.proofs.Common.{refl, sym, ap, ◌∙◌, arith, append_assoc, length-append, length-take-le}
 use Rattle.host_model.specs.Files.{Gives}
 use Rattle.host_model.specs.Told.{TellsOn}
 use Rattle.host_model.proofs.FrameLemmas.{TellsOn-same, TellsOn-then, TellsOn-weaker}

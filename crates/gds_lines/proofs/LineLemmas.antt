@@ -18,8 +18,8 @@ prefix_len-append_stop : (q : ℕ → Bool) (xs ys : List ℕ) → prefix_len q 
     → prefix_len q (xs ++ ys) ≡ prefix_len q xs
 prefix_len-append_stop q [] ys h = absurd (omega arith)
 prefix_len-append_stop q (x ∷ xs) ys h =
-    (elim (q x) as (λ b. cond b (1 + prefix_len q xs) 0 < suc (length xs) → cond b (1 + prefix_len q (xs ++ ys))
-    0 ≡ cond b (1 + prefix_len q xs) 0)
+    (elim (q x) as (λ b. cond b (1 + prefix_len q xs) 0 < suc (length xs)
+    → cond b (1 + prefix_len q (xs ++ ys)) 0 ≡ cond b (1 + prefix_len q xs) 0)
     [ true ↦ λ k. ap (λ n. 1 + n) (prefix_len-append_stop q xs ys (omega arith)) | false ↦ λ k. refl ])
     h
 
@@ -27,8 +27,8 @@ prefix_len-append_all : (q : ℕ → Bool) (xs ys : List ℕ) → prefix_len q x
     → prefix_len q (xs ++ ys) ≡ length xs + prefix_len q ys
 prefix_len-append_all q [] ys h = omega arith
 prefix_len-append_all q (x ∷ xs) ys h =
-    (elim (q x) as (λ b. cond b (1 + prefix_len q xs) 0 ≡ suc (length xs) → cond b (1 + prefix_len q (xs ++ ys))
-    0 ≡ suc (length xs) + prefix_len q ys)
+    (elim (q x) as (λ b. cond b (1 + prefix_len q xs) 0 ≡ suc (length xs)
+    → cond b (1 + prefix_len q (xs ++ ys)) 0 ≡ suc (length xs) + prefix_len q ys)
     [ true ↦ λ k. omega (arith, prefix_len-append_all q xs ys (omega arith)) | false ↦ λ k. absurd (omega arith) ])
     h
 

@@ -39,8 +39,7 @@ moved listed call step result m n called =
     (λ r. inl (record {
       first = called.first;
       steps = ap (λ (l : Log). l.steps) r.after;
-      moment = ap
-          (λ (l : Log). l.moment) r.after;
+      moment = ap (λ (l : Log). l.moment) r.after;
       numbered = r.numbered;
     }))
     (λ e.
@@ -204,15 +203,13 @@ pub writes : {T E : Type 0} (file : FileNo) (at : ℕ) (bytes : List ℕ) (resul
 writes Db at bytes (Ok x) c d e =
     record {
       changed = ap (λ (k : Contents). k.db) e;
-      other = other_than_db d c
-          (ap (λ (k : Contents). k.images) e);
+      other = other_than_db d c (ap (λ (k : Contents). k.images) e);
       said = ap (λ (k : Contents). k.said) e;
     }
 writes Images at bytes (Ok x) c d e =
     record {
       changed = ap (λ (k : Contents). k.images) e;
-      other = other_than_images d c
-          (ap (λ (k : Contents). k.db) e);
+      other = other_than_images d c (ap (λ (k : Contents). k.db) e);
       said = ap (λ (k : Contents). k.said) e;
     }
 writes file at bytes (Err x) c d e =
@@ -221,8 +218,7 @@ writes file at bytes (Err x) c d e =
       changed = record {
         no_shorter = omega arith;
         no_longer = omega arith;
-        before =
-            λ i _ _. refl;
+        before = λ i _ _. refl;
         behind = λ i _ _. refl;
       };
       other = λ f _. refl;
@@ -285,15 +281,13 @@ pub cuts_so : {T E : Type 0} (file : FileNo) (len : ℕ) (result : Result T E) (
 cuts_so Db len (Ok x) c d e =
     record {
       changed = ap (λ (k : Contents). k.db) e;
-      other = other_than_db d c
-          (ap (λ (k : Contents). k.images) e);
+      other = other_than_db d c (ap (λ (k : Contents). k.images) e);
       said = ap (λ (k : Contents). k.said) e;
     }
 cuts_so Images len (Ok x) c d e =
     record {
       changed = ap (λ (k : Contents). k.images) e;
-      other = other_than_images d c
-          (ap (λ (k : Contents). k.db) e);
+      other = other_than_images d c (ap (λ (k : Contents). k.db) e);
       said = ap (λ (k : Contents). k.said) e;
     }
 cuts_so file len (Err x) c d e =
@@ -302,8 +296,7 @@ cuts_so file len (Err x) c d e =
       changed = record {
         no_shorter = omega arith;
         no_longer = omega arith;
-        below =
-            λ i _ _. refl;
+        below = λ i _ _. refl;
       };
       other = λ f _. refl;
       said = refl;

@@ -26,8 +26,7 @@ stable-Leaves drive sound =
     record {
       no_shorter = sound.stable;
       no_longer = farthest-le (length drive.stable) drive.ranges;
-      stays =
-          λ i _ _. refl;
+      stays = λ i _ _. refl;
     }
 
 pub scribbled-Leaves : (drive : Drive) (n : ℕ) → drive.least ≤ n → n ≤ most drive → Leaves drive (scribbled drive n)
@@ -62,14 +61,12 @@ pub crashed-state : (choice : ℕ) (state : State) → AreSound state
     → StateLeaves state (record {
       db = crashed choice state.db;
       images = crashed choice state.images;
-      said =
-          state.said;
+      said = state.said;
     })
 crashed-state choice state sound =
     record {
       db = crashed-Leaves choice state.db sound.db;
-      images = crashed-Leaves choice state.images
-          sound.images;
+      images = crashed-Leaves choice state.images sound.images;
       said = refl;
     }
 

@@ -31,13 +31,11 @@ before_writing number Db at bytes done state sound c left =
       record {
         db = before_write-left state.db sound.db at bytes done c.db left.db;
         images = left.images;
-        said =
-            left.said;
+        said = left.said;
       },
       record {
         changed = before_write-torn state.db sound.db at bytes done c.db left.db;
-        other = other_than_db c d
-            refl;
+        other = other_than_db c d refl;
         said = refl;
       },
     )
@@ -47,14 +45,12 @@ before_writing number Images at bytes done state sound c left =
       d,
       record {
         db = left.db;
-        images = before_write-left state.images sound.images at bytes done c.images
-            left.images;
+        images = before_write-left state.images sound.images at bytes done c.images left.images;
         said = left.said;
       },
       record {
         changed = before_write-torn state.images sound.images at bytes done c.images left.images;
-        other =
-            other_than_images c d refl;
+        other = other_than_images c d refl;
         said = refl;
       },
     )
@@ -82,8 +78,7 @@ before_cutting number Images len done state sound c left =
       },
       record {
         changed = before_cut-cut state.images sound.images len done c.images left.images;
-        other =
-            other_than_images c d refl;
+        other = other_than_images c d refl;
         said = refl;
       },
     )
@@ -101,15 +96,13 @@ before_sync number Db state sound c left =
     record {
       db = subst P (sym (settled-only state.db.now c.db left.db)) sound.db.now;
       images = left.images;
-      said =
-          left.said;
+      said = left.said;
     }
 before_sync number Images state sound c left =
     let P : List ℕ → Type 0 = λ f. Leaves state.images f in
     record {
       db = left.db;
-      images = subst P (sym (settled-only state.images.now c.images left.images))
-          sound.images.now;
+      images = subst P (sym (settled-only state.images.now c.images left.images)) sound.images.now;
       said = left.said;
     }
 
@@ -285,8 +278,7 @@ stays_torn file at n old new stays = λ c left. (
       no_shorter = omega arith;
       no_longer = omega arith;
       before = λ i _ _. refl;
-      behind = λ i _ _.
-          refl;
+      behind = λ i _ _. refl;
     };
     other = λ f _. refl;
     said = refl;

@@ -67,8 +67,7 @@ pub settled-IsSound : (file : List ℕ) → IsSound (settled file)
 settled-IsSound file =
     record {
       now = record { no_shorter = omega arith; no_longer = omega arith; stays = λ i _ _. refl };
-      stable =
-          omega arith;
+      stable = omega arith;
     }
 
 pub wrote-IsSound : (at : ℕ) (bytes : List ℕ) (done : Bool) (drive : Drive) → IsSound drive

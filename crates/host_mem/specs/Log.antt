@@ -27,8 +27,7 @@ pub record Recorded (call : Call) (step : Option Step) (old new : Log) : Type 0 
   pub after : new ≡ record old {
     calls = old.calls ++ call ∷ [];
     steps = with_step step old.steps;
-    moment =
-        old.moment + 1;
+    moment = old.moment + 1;
   }
 
 -- A call was made for which there was no memory, or no number left.

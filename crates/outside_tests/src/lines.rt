@@ -1,8 +1,5 @@
-ghost use Rattle.std.specs.Prelude.{◌≡◌, ◌<◌, length, map, IfOk, IfSome};
-ghost use Rattle.std.specs.Result.{IsErrOf};
+ghost use Rattle.std.specs.Prelude.{◌≡◌, ◌<◌, map, IfOk, IfSome};
 ghost use Rattle.std.specs.Str.Lines.{lines};
-ghost use Rattle.gds_lines.specs.declared.TheConstants.{INPUT_LIMIT};
-ghost use Rattle.gds_lines.specs.declared.error.LinesError.{LinesError};
 ghost use Rattle.gds_lines.specs.Lines.{given};
 
 use gds_lines::{Lines, LinesError};
@@ -13,10 +10,8 @@ use std::test::Fail;
 
 /// Every line of what a source has left, one after another.
 fn all_lines<I: Source>(alloc: Global, source: I) -> Result<Vec<Vec<u8>>, LinesError>
-    ensures lines { IfOk result (λ all. IfSome (I.left source)
+    ensures { IfOk result (λ all. IfSome (I.left source)
         (λ text. map (λ line. line.items) all.items ≡ map given (lines text))) }
-    ensures too_long { IsErrOf result LinesError.InputTooLong
-        → IfSome (I.left source) (λ text. INPUT_LIMIT < length text) }
 {
     let mut reader = Lines::new(alloc, source);
     let mut all = Vec::new(alloc);

@@ -3,7 +3,6 @@ use Rattle.std.proofs.lemmas.List.{map_push}
 use Rattle.std.specs.Str.Lines.{lines}
 use Rattle.host_model.specs.Told.{TellsOn}
 use Rattle.gds_lines.specs.Lines.{given}
-use Rattle.gds_lines.proofs.CountLemmas.{counts_then}
 use Rattle.gds_lines.proofs.ToldLemmas.{so_far-more}
 use Rattle.outside_tests.proofs.lines.all_lines.Goals as goal
 
@@ -25,8 +24,6 @@ loop-all-preserved g c =
     record {
       so_far = subst (λ l. TellsOn text new.left (λ t rest. map given (lines t) ≡ l ++ map given (lines rest)))
           (sym pushed) more;
-      reads = counts_then 0 c.loop-all.reader.taken new.taken text c.loop-all.reader.untaken new.untaken
-          c.loop-all.invariant.reads taken.counts;
       goes = rw c.in_ok-line.was at taken.refused;
       passed = omega (arith, taken.behind, short);
     }
