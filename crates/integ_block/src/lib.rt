@@ -25,6 +25,7 @@ use gds_block::BlockView;
 use gds_header::Header;
 use gds_law::FaultSink;
 use head::HEAD_KINDS;
+use integ_quick::is_clean_leaf;
 use reading::BlockReading;
 
 /// Tells the faults of the block that a path leads to, but for those of doubly allocated blocks, and appends its
@@ -47,6 +48,9 @@ pub fn block_faults<F: FaultSink>(
         (children_of header.now (visit_of at.now.visit) bytes.now) result }
     ensures refused { IfErr result (λ error. (error ≡ IntegError.Memory) ⊎ (error ≡ IntegError.SayFault)) }
 {
+    if is_clean_leaf(bytes, header, &at.visit) {
+        return Ok(0);
+    }
     let reading = BlockReading::of(bytes, at, header);
     let head = reading.tell_head(bytes, &HEAD_KINDS, sink)?;
     match BlockView::new(bytes) {

@@ -5,7 +5,8 @@ use Rattle.std.specs.List.{list_any}
 use Rattle.std.proofs.lemmas.List.{append-nil, length-map}
 use Rattle.gds_block.specs.Block.{IsBlock}
 use Rattle.gds_block.specs.Record.{records_of}
-use Rattle.gds_law.specs.Block.{fault_at, faults_of_block, head_holds, kinds_from, children_from, children_of}
+use Rattle.gds_law.specs.Block.{fault_at, faults_of_block, head_holds, kinds_from, kinds_of_block, children_from}
+use Rattle.gds_law.specs.Block.{children_of}
 use Rattle.gds_law.specs.Kinds.{ends, head_kinds}
 use Rattle.gds_law.specs.BlockReading as law
 use Rattle.gds_law.specs.Visit.{Visit, Child}
@@ -26,6 +27,31 @@ use Rattle.integ_block.proofs.ErrorLemmas.{only_say, refused}
 use Rattle.integ_block.proofs.block_faults.Given.{Over}
 use Rattle.integ_block.proofs.block_faults.Goals as goal
 use Rattle.integ_block.proofs.block_faults.Goals.{In_ok-head}
+
+-- ---- a block with which nothing is wrong
+
+none-faults : (h : Header) (path : List (ℕ × ℕ)) (v : Visit) (bytes : List ℕ)
+    → kinds_of_block (law.reading_of h v bytes) bytes ≡ [] → [] ≡ faults_of_block h path v bytes
+none-faults h path v bytes none = sym (ap (map (fault_at (law.reading_of h v bytes) path)) none)
+
+as_before : {A : Type 0} (old due : List A) → [] ≡ due → old ≡ old ++ due
+as_before old due e = sym (append-nil old) ∙ ap (λ xs. old ++ xs) e
+
+pub returns-then-is_clean_leaf-clause-told : goal.returns-then-is_clean_leaf-clause-told
+returns-then-is_clean_leaf-clause-told g c =
+    WasTold-ok g.F.FaultSink.listed g.F.FaultSink.failures c.args.sink.now c.args.sink.now _ _ SayFault
+    (as_before _ _ (none-faults c.args.header.now c.args.at.now.path (visit_of c.args.at.now.visit) c.args.bytes.now
+    c.if-is_clean_leaf.ensures.clean))
+    (omega arith)
+
+pub returns-then-is_clean_leaf-clause-count : goal.returns-then-is_clean_leaf-clause-count
+returns-then-is_clean_leaf-clause-count g c =
+    ap length (none-faults c.args.header.now c.args.at.now.path (visit_of c.args.at.now.visit) c.args.bytes.now
+    c.if-is_clean_leaf.ensures.clean)
+
+pub returns-then-is_clean_leaf-clause-children : goal.returns-then-is_clean_leaf-clause-children
+returns-then-is_clean_leaf-clause-children g c =
+    Grew-ok _ _ _ _ (as_before _ _ (sym c.if-is_clean_leaf.ensures.childless))
 
 -- ---- after the head was told
 
