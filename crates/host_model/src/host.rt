@@ -1,4 +1,4 @@
-ghost use Rattle.std.specs.Prelude.{◌≡◌, ◌≤◌, ℕ, Option, None, Some, length, IfOk, OnOk, OnErr, IfSome};
+ghost use Rattle.std.specs.Prelude.{◌≡◌, ◌<◌, ◌≤◌, ℕ, Option, None, Some, length, All, IfOk, OnOk, OnErr, IfSome};
 ghost use Rattle.std.specs.Option.{ForSome};
 ghost use Rattle.host_model.specs.Failures.{Failures, NeverFell, Rose, counted};
 ghost use Rattle.host_model.specs.Told.{TellsOn};
@@ -45,6 +45,7 @@ pub trait Host: Drop {
     /// The length of a file in bytes. A missing file has none.
     fn len(&mut self, file: FileNo) -> Result<u64, HostFailed>
         ensures length { IfOk result (λ n. IfSome (told self.old) (λ c. n ≡ length (file_of c file))) }
+        ensures bytes { IfSome (told self.old) (λ c. All (λ b. b < 256) c.db × All (λ b. b < 256) c.images) }
         ensures told { told self.new ≡ told self.old }
         ensures crash { Stays (left_since self.old (moment self.old)) (left_since self.new (moment self.new)) }
         ensures time { Elapses (moment self.old) (moment self.new) (left_since self.old) (left_since self.new) (left_since self.new (moment self.new)) }

@@ -1,0 +1,2 @@
+pub mod RawFileLemmas
+pub mod Walks
