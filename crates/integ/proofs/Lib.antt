@@ -1,2 +1,4 @@
 pub mod RawFileLemmas
 pub mod Walks
+pub mod PairLemmas
+pub mod StandingLemmas

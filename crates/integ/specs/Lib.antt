@@ -1,1 +1,5 @@
 pub mod RawFile
+pub mod BlockSet
+pub mod GroupMap
+pub mod Standing
+pub mod GroupView

@@ -1,9 +1,12 @@
 //! INTEG of a database file, whole: every fault of any file, in order.
 #![tactic(auto)]
 
+mod group;
 mod history;
+mod pairs;
 mod raw_file;
 mod sinks;
+mod telling;
 
 pub use raw_file::RawFile;
 pub use sinks::{CountSink, ListSink};

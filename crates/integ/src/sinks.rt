@@ -1,4 +1,4 @@
-ghost use Rattle.std.specs.Prelude.{◌≡◌, ◌-◌, ◌^◌, [], map, length, min, IfOk};
+ghost use Rattle.std.specs.Prelude.{◌≡◌, ◌-◌, ◌^◌, [], length, min, IfOk};
 
 use crate::history::History;
 use gds_law::{Fault, FaultSink, SinkTrouble};
@@ -41,9 +41,7 @@ impl ListSink {
 }
 
 impl FaultSink for ListSink {
-    ghost use Rattle.gds_law.specs.Fault.{told_of};
-
-    ghost listed = { λ sink. map told_of sink };
+    ghost listed = { λ sink. sink };
 
     ghost failures = { λ _. 0 };
 
@@ -106,9 +104,7 @@ impl CountSink {
 }
 
 impl FaultSink for CountSink {
-    ghost use Rattle.gds_law.specs.Fault.{told_of};
-
-    ghost listed = { λ sink. map told_of sink };
+    ghost listed = { λ sink. sink };
 
     ghost failures = { λ _. 0 };
 
