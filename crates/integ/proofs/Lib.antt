@@ -2,3 +2,5 @@ pub mod RawFileLemmas
 pub mod Walks
 pub mod PairLemmas
 pub mod StandingLemmas
+pub mod FourLemmas
+pub mod GroupLemmas

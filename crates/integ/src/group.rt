@@ -75,14 +75,15 @@ impl Group<'_> {
     {
         let used = u32_at(self.map, 4);
         let marked_free = self.header.group_has_free(self.number);
+        let has_free = free > 0;
         let kinds = [
             (FaultKind::BadVersion, self.has_bad_version()),
             (FaultKind::TransactionTooNew, self.header.tn <= u64_at(self.map, 8)),
             (FaultKind::MapUsedTooSmall, used < 144),
             (FaultKind::MapUsedTooLarge, used > 144),
             (FaultKind::MapLevel, self.map[3] != 255),
-            (FaultKind::GroupMarkedFree, marked_free && free == 0),
-            (FaultKind::GroupMarkedFull, !marked_free && free > 0),
+            (FaultKind::GroupMarkedFree, marked_free & !has_free),
+            (FaultKind::GroupMarkedFull, !marked_free & has_free),
         ];
         tell_standing(GROUP * self.number, &kinds, sink)
     }
