@@ -1,3 +1,4 @@
-pub mod HeadLaws
-pub mod RecordLaws
-pub mod PlaceLaws
+pub mod FieldLemmas
+pub mod HeadLemmas
+pub mod RecordLemmas
+pub mod PlaceLemmas

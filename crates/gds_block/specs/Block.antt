@@ -1,7 +1,6 @@
 -- The head of a block, over the list of the block's bytes.
 use Rattle.std.specs.Prelude.{ℕ, ◌≡◌, ◌≤◌, List, [], ◌∷◌, ◌++◌, length, slice_index}
-use Rattle.std.specs.Int.{w16, w32, w64, to_le_bytes}
-use Rattle.gds_block.specs.Fields.{u16_at, u32_at, u64_at}
+use Rattle.gds_block.specs.Fields.{u16_at, u32_at, u64_at, u16_bytes, u32_bytes, u64_bytes}
 
 abbrev pub version_of : List ℕ → ℕ
 version_of block = u16_at block 0
@@ -28,7 +27,7 @@ pub record IsBlock (bytes : List ℕ) : Type 0 where
 
 -- the head of version 1 with these fields
 abbrev pub head_bytes : ℕ → ℕ → ℕ → List ℕ
-head_bytes level used tn = to_le_bytes w16 1 ++ 0 ∷ level ∷ [] ++ to_le_bytes w32 used ++ to_le_bytes w64 tn
+head_bytes level used tn = u16_bytes 1 ++ 0 ∷ level ∷ [] ++ u32_bytes used ++ u64_bytes tn
 
 -- the head is of version 1, and its other fields read so
 pub record HasHead (block : List ℕ) (height size number : ℕ) : Type 0 where

@@ -13,6 +13,7 @@ pub fn write_head(out: &mut [u8], level: u8, used: u32, tn: u64)
 }
 
 // The head of version 1 with these fields.
+#[tactic(auto, unfolding(crate::specs::Fields::u16_bytes, crate::specs::Fields::u32_bytes, crate::specs::Fields::u64_bytes))]
 fn head_of(level: u8, used: u32, tn: u64) -> [u8; 16]
     ensures { result ≡ head_bytes level used tn }
 {

@@ -10,9 +10,9 @@ mod head;
 mod records;
 mod view;
 
-pub use fields::{pointer_of, u16_at, u32_at, u64_at};
+pub use fields::{pointer_of, put_bytes, put_u16, put_u32, put_u64, u16_at, u32_at, u64_at};
 pub use head::write_head;
-pub use records::{RecordView, Records};
+pub use records::{RecordView, Records, least_size};
 pub use view::BlockView;
 
 #[cfg(test)]

@@ -1,6 +1,6 @@
 ghost use Rattle.std.specs.Prelude.{◌≡◌, ◌+◌, ◌^◌, ◌<◌, length, SomeIff, IsTrue};
 ghost use Rattle.std.specs.Iterator.{YieldsFirstBy, item_count};
-ghost use Rattle.gds_block.specs.Record.{size_of, is_well_sized, records_from};
+ghost use Rattle.gds_block.specs.Record.{size_of, least_size, is_well_sized, records_from};
 
 use crate::fields::u16_at;
 use std::marker::Model;
@@ -81,10 +81,17 @@ fn size_of_first(left: &[u8], level: u8) -> Option<usize>
     if left.len() < 4 {
         return None;
     }
-    let size = u16_at(left, 0) as usize;
-    let least = if level == 0 { 5 } else { 8 };
-    if size < least || left.len() < size {
+    let size = u16_at(left, 0);
+    if size < least_size(level) || left.len() < size as usize {
         return None;
     }
-    Some(size)
+    Some(size as usize)
+}
+
+/// The least size of a record of a block of this level: its head of 4 bytes, and a body of 1 byte at level 0 and of
+/// 4 bytes above it.
+pub fn least_size(level: u8) -> u16
+    ensures { result ≡ least_size level }
+{
+    if level == 0 { 5 } else { 8 }
 }

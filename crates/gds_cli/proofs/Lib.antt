@@ -1,12 +1,12 @@
-mod HeaderRead
-mod Answering
-mod ThinBlocks
-mod ThinDistinct
-mod ThinHeader
-mod ThinSaying
-mod ThinTrees
-mod ThinWhole
-mod Due
-pub mod LeafRecord
-pub mod LeafRead
-pub mod LeafLaws
+mod HeaderReadingLemmas
+mod AnswerLemmas
+mod BlockLemmas
+mod DistinctLemmas
+mod SoundHeaderLemmas
+mod SayingLemmas
+mod DirectoryLemmas
+mod ExtractLemmas
+mod DueLemmas
+pub mod LeafRecordLemmas
+pub mod LeafReadingLemmas
+pub mod LeafLemmas

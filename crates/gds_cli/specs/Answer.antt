@@ -45,7 +45,7 @@ Due (Ok Integ) c reply = reply ≡ header_reply (ending_kind c.db)
 Due (Ok (Extract stamp)) c reply = ExtractDue stamp.items c reply
 
 -- Which endings the words may have, whatever the device does. Only a database file that is read can meet
--- a read fault or change, and only a text that is put together wants memory.
+-- a failure or a change, and only a text that is put together wants memory.
 abbrev pub MayEnd : Result Command BadWords → Status → Type 0
 MayEnd command ended.SayFault = Unit {0}
 MayEnd (Err bad) ended.BadWords = Unit {0}
@@ -74,7 +74,7 @@ ReadsNoFile (Ok (Extract stamp)) = ⊥
 abbrev pub SaysFront : List ℕ → Contents → Contents → Type 0
 SaysFront text before after = (n : ℕ) × (after ≡ saying before (take n text))
 
--- a fault of the device, or want of memory
+-- a failure of the device, or want of memory
 abbrev pub is_break : Status → Bool
 is_break ended.Memory = true
 is_break ended.ReadFault = true

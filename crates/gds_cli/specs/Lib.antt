@@ -1,7 +1,9 @@
 pub mod Status
 pub mod Words
 pub mod Thin
-pub mod LeafSeen
-pub mod Reading
+pub mod Trouble
+pub mod SoundHeader
+pub mod Leaf
+pub mod Directory
 pub mod Answer
-pub mod Saying
+pub mod Extract

@@ -1,5 +1,6 @@
--- The exit status of each ending.
-use Rattle.std.specs.Prelude.{ℕ}
+-- The exit status of each ending, and what it tells of the device.
+use Rattle.std.specs.Prelude.{ℕ, ◌≡◌}
+use Rattle.host_model.specs.Failures.{Failures, Rose}
 use Rattle.gds_cli.specs.declared.status.Status.{Status}
 use Rattle.gds_cli.specs.declared.status.Status.TheVariants as ended
 
@@ -25,3 +26,8 @@ code_of ended.NoBlock = 19
 code_of ended.BadEdit = 20
 code_of ended.SnapshotLost = 21
 code_of ended.NotBuilt = 22
+
+-- The status of a failed device has its cause: the count of such failures rose.
+pub record HasCause (status : Status) (before now : Failures) : Type 0 where
+  pub read_fault : status ≡ ended.ReadFault → Rose before.read now.read
+  pub say_fault : status ≡ ended.SayFault → Rose before.say now.say

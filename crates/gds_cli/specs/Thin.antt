@@ -1,11 +1,12 @@
 -- Thin files: the directory is a single leaf, and so is each global. Which pairs of files are thin, and the globals that
 -- they stand for.
 use Rattle.std.specs.Prelude.{ℕ, ◌≡◌, ◌≤◌, ◌<◌, ◌+◌, ◌%◌, Bool, ◌&&◌, ◌==◌, nat_eq, nat_lt, not, IsTrue, List, [], ◌∷◌, ◌++◌, length, take, sum_by, flat_map, codes}
-use Rattle.std.specs.List.{starts_with, common_prefix_len, AllByRecursion, AllZip, IsDistinct}
+use Rattle.std.specs.List.{starts_with, AllByRecursion, AllZip, IsDistinct}
 use Rattle.std.specs.Ordering.{nat_cmp, is_lt}
 use Rattle.std.specs.Cmp.Lexicographic.{slice_cmp}
 use Rattle.std.specs.FinMap.{entries}
 use Rattle.m_key.specs.Key.{key_bytes}
+use Rattle.m_key.specs.KeyEnd.{shared}
 use Rattle.m_key.specs.Globals.{Globals, Place}
 use Rattle.gds_block.specs.Fields.{u16_at, u32_at}
 use Rattle.gds_block.specs.Block.{IsBlock, version_of, reserved_of, level_of, used_of}
@@ -23,19 +24,19 @@ abbrev pub is_block_number : Header → ℕ → Bool
 is_block_number h n = nat_lt 0 n && nat_lt n h.total && not (n % 512 == 0)
 
 -- A star block: of version 1, reserved byte 0 and level 1, with one star record, whose pointer is such a number.
-abbrev pub child_of : List ℕ → ℕ
-child_of block = u32_at block 20
+abbrev pub star_child : List ℕ → ℕ
+star_child block = u32_at block 20
 
 abbrev pub is_star_block : Header → List ℕ → Bool
 is_star_block h block =
     (version_of block == 1) && (reserved_of block == 0) && (level_of block == 1) && (used_of block == 24)
-    && (u16_at block 16 == 8) && (u16_at block 18 == 0) && is_block_number h (child_of block)
+    && (u16_at block 16 == 8) && (u16_at block 18 == 0) && is_block_number h (star_child block)
 
 -- A record behind a key is that of a node and its value: its count is that of the leading bytes which the keys share,
 -- and its key has no more bytes than the header allows and is above the key before it.
 pub record IsRecordOf (h : Header) (previous : List ℕ) (r : Record) (v : Valued) : Type 0 where
   pub bytes : take r.count previous ++ r.body ≡ key_bytes v.0.node ++ v.1
-  pub exact : r.count ≡ common_prefix_len nat_eq previous (key_bytes v.0.node)
+  pub exact : r.count ≡ shared previous (key_bytes v.0.node)
   pub within : length (key_bytes v.0.node) ≤ h.key_max
   pub above : IsTrue (is_lt (slice_cmp nat_cmp previous (key_bytes v.0.node)))
 
@@ -61,7 +62,7 @@ abbrev pub root_of : Valued → ℕ
 root_of entry = u32_at entry.1 0
 
 abbrev pub leaf_of : List ℕ → Valued → ℕ
-leaf_of d entry = child_of (block_of d (root_of entry))
+leaf_of d entry = star_child (block_of d (root_of entry))
 
 -- An entry of the directory is a name, and leads by a star block to a leaf with these nodes, of which there is one or
 -- more. They have that name, and no value is longer than the header allows.
@@ -77,7 +78,7 @@ pub record IsGlobal (d : List ℕ) (entry : Valued) (vs : List Valued) : Type 0 
 
 -- the blocks of a thin file that are no maps
 abbrev pub blocks_of : List ℕ → List Valued → List ℕ
-blocks_of d directory = 1 ∷ child_of (block_of d 1) ∷ flat_map (λ entry. root_of entry ∷ leaf_of d entry ∷ []) directory
+blocks_of d directory = 1 ∷ star_child (block_of d 1) ∷ flat_map (λ entry. root_of entry ∷ leaf_of d entry ∷ []) directory
 
 -- The two files are thin, with this directory and each global's nodes: the header has no fault, the file of images is
 -- closed, and no block has two uses.
@@ -85,7 +86,7 @@ pub record IsThin (d b : List ℕ) (directory : List Valued) (globals : List (Li
   pub sound : header_faults d ≡ []
   pub closed : IsTrue (starts_with nat_eq b (codes "GDSBIMG1" ++ 0 ∷ []))
   pub star : IsTrue (is_star_block (fields_of d) (block_of d 1))
-  pub leaf : IsLeaf (fields_of d) (block_of d (child_of (block_of d 1))) directory
+  pub leaf : IsLeaf (fields_of d) (block_of d (star_child (block_of d 1))) directory
   pub each : AllZip (IsGlobal d) directory globals
   pub distinct : IsDistinct nat_eq (blocks_of d directory)
 

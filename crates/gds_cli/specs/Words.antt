@@ -1,7 +1,8 @@
 -- The grammar of the command line: its words, each a list of bytes.
-use Rattle.std.specs.Prelude.{ℕ, Bool, ◌&&◌, nat_le, List, [], ◌∷◌, length, take, drop, Option, Some, None, Result, Ok, Err, codes, if◌then◌else◌}
+use Rattle.std.specs.Prelude.{ℕ, Bool, ◌&&◌, nat_le, List, [], ◌∷◌, length, take, drop, Option, Some, None, Result, Ok, Err, codes, map, string_bytes, if◌then◌else◌}
 use Rattle.std.specs.List.{list_all}
 use Rattle.std.specs.Str.{str_eq_ignore_ascii_case}
+use Rattle.std.specs.declared.string.String.{String}
 use Rattle.arrayvec.specs.ArrayVec.{ArrayVec}
 use Rattle.m_text.specs.Written.{is_printable}
 use Rattle.gds_cli.specs.declared.words.Command.{Command}
@@ -44,3 +45,7 @@ command_of (name ∷ words) =
     else (if str_eq_ignore_ascii_case name (codes "INTEG") then alone Integ words
     else (if str_eq_ignore_ascii_case name (codes "EXTRACT") then extract_of words
     else bad_at 0))
+
+-- the command that these words of a command line name
+abbrev pub command_in : {Z : Type 0} → List (String Z) → Result Command BadWords
+command_in words = command_of (map string_bytes words)

@@ -1,8 +1,9 @@
-ghost use Rattle.std.specs.Prelude.{◌≡◌, ◌≢◌, ◌⊎◌, false, Some, map, string_bytes, IfSome};
-ghost use Rattle.host_model.specs.Failures.{NeverFell, NoneRose, Rose, counted};
-ghost use Rattle.host_model.specs.Told.{TellsOn};
+ghost use Rattle.std.specs.Prelude.{◌≡◌, ◌≢◌, ◌⊎◌, false, Some, IfSome};
+ghost use Rattle.host_model.specs.Failures.{NoneRose, Rose, counted};
 ghost use Rattle.host_model.specs.Files.{saying};
-ghost use Rattle.gds_cli.specs.Words.{command_of};
+ghost use Rattle.host_model.specs.Frames.{WasUsed};
+ghost use Rattle.gds_cli.specs.Words.{command_in};
+ghost use Rattle.gds_cli.specs.Status.{HasCause};
 ghost use Rattle.gds_cli.specs.Answer.{Reply, header_reply, is_break, Answers, Due, Ends, ExtractDue, MayEnd, ReadsNoFile};
 ghost use Rattle.gds_header.specs.Kinds.{ending_kind};
 
@@ -28,23 +29,21 @@ pub fn gds<H: Host, I: Source>(
     mut host: H,
     input: I,
 ) -> Ended<H, I>
-    // Over a host that tells: the reply is said, or a front of it where a fault or want of memory came.
+    // Over a host that tells: the reply is said, or a front of it where the device failed or memory ran out.
     // Both files stay.
-    ensures told { TellsOn (H.told host) (H.told result.host) (λ before after.
-        Ends (Due (command_of (map string_bytes words.now)) before) result.status before after) }
-    // Where no fault came either, the whole reply is said, or memory ran out.
+    ensures host { WasUsed H.told H.failures host result.host (λ before after.
+        Ends (Due (command_in words.now) before) result.status before after) }
+    // Where the device didn't fail either, the whole reply is said, or memory ran out.
     ensures complete { NoneRose (H.failures host) (H.failures result.host) → IfSome (H.told host) (λ before.
         (result.status ≡ Status.Memory)
-        ⊎ ((reply : Reply) × Due (command_of (map string_bytes words.now)) before reply
+        ⊎ ((reply : Reply) × Due (command_in words.now) before reply
         × (result.status ≡ reply.status) × (H.told result.host ≡ Some (saying before reply.text)))) }
 
     // Over any host.
-    ensures status { MayEnd (command_of (map string_bytes words.now)) result.status }
-    ensures read_fault { result.status ≡ Status.ReadFault → Rose (H.failures host).read (H.failures result.host).read }
-    ensures say_fault { result.status ≡ Status.SayFault → Rose (H.failures host).say (H.failures result.host).say }
-    ensures failures { NeverFell (H.failures host) (H.failures result.host) }
+    ensures status { MayEnd (command_in words.now) result.status }
+    ensures cause { HasCause result.status (H.failures host) (H.failures result.host) }
     // A call that reads no file asks the host for its saying alone.
-    ensures one_call { ReadsNoFile (command_of (map string_bytes words.now)) → result.status ≢ Status.Memory
+    ensures one_call { ReadsNoFile (command_in words.now) → result.status ≢ Status.Memory
         → H.moment result.host ≡ counted (H.moment host) }
     ensures input { result.input ≡ input }
 {
@@ -58,13 +57,11 @@ pub fn gds<H: Host, I: Source>(
 
 /// Does what the words ask for, and says the answer.
 fn answer<H: Host>(alloc: Global, words: &[String], host: &mut H) -> Status
-    ensures told { TellsOn (H.told host.old) (H.told host.new) (λ before after.
-        Ends (Due (command_of (map string_bytes words.now)) before) result before after) }
-    ensures status { MayEnd (command_of (map string_bytes words.now)) result }
-    ensures read_fault { result ≡ Status.ReadFault → Rose (H.failures host.old).read (H.failures host.new).read }
-    ensures say_fault { result ≡ Status.SayFault → Rose (H.failures host.old).say (H.failures host.new).say }
-    ensures failures { NeverFell (H.failures host.old) (H.failures host.new) }
-    ensures one_call { ReadsNoFile (command_of (map string_bytes words.now)) → result ≢ Status.Memory
+    ensures host { WasUsed H.told H.failures host.old host.new (λ before after.
+        Ends (Due (command_in words.now) before) result before after) }
+    ensures status { MayEnd (command_in words.now) result }
+    ensures cause { HasCause result (H.failures host.old) (H.failures host.new) }
+    ensures one_call { ReadsNoFile (command_in words.now) → result ≢ Status.Memory
         → H.moment host.new ≡ counted (H.moment host.old) }
 {
     match read_words(words) {
@@ -80,12 +77,10 @@ fn answer<H: Host>(alloc: Global, words: &[String], host: &mut H) -> Status
 
 /// Says the extract of thin files, and of others that they aren't built yet.
 fn extract<H: Host>(alloc: Global, host: &mut H, stamp: &[u8]) -> Status
-    ensures told { TellsOn (H.told host.old) (H.told host.new) (λ before after.
+    ensures host { WasUsed H.told H.failures host.old host.new (λ before after.
         Ends (ExtractDue stamp.now before) result before after) }
     ensures status { MayEnd (Ok (Command.Extract (record { items = stamp.now }))) result }
-    ensures read_fault { result ≡ Status.ReadFault → Rose (H.failures host.old).read (H.failures host.new).read }
-    ensures say_fault { result ≡ Status.SayFault → Rose (H.failures host.old).say (H.failures host.new).say }
-    ensures failures { NeverFell (H.failures host.old) (H.failures host.new) }
+    ensures cause { HasCause result (H.failures host.old) (H.failures host.new) }
 {
     match thin::extract(alloc, host, stamp) {
         Ok(true) => Status::Done,
@@ -102,12 +97,10 @@ fn extract<H: Host>(alloc: Global, host: &mut H, stamp: &[u8]) -> Status
 
 /// Finds the header kind that ends the reading of the database file, and says it.
 fn integ<H: Host>(alloc: Global, host: &mut H) -> Status
-    ensures told { TellsOn (H.told host.old) (H.told host.new) (λ before after.
+    ensures host { WasUsed H.told H.failures host.old host.new (λ before after.
         Answers (header_reply (ending_kind before.db)) result before after) }
     ensures status { MayEnd (Ok Command.Integ) result }
-    ensures read_fault { result ≡ Status.ReadFault → Rose (H.failures host.old).read (H.failures host.new).read }
-    ensures say_fault { result ≡ Status.SayFault → Rose (H.failures host.old).say (H.failures host.new).say }
-    ensures failures { NeverFell (H.failures host.old) (H.failures host.new) }
+    ensures cause { HasCause result (H.failures host.old) (H.failures host.new) }
 {
     match ending_kind(host) {
         Ok(Some(kind)) => match format!(in alloc; "{} file\nFAULTS 1\n", kind.name()) {
@@ -123,11 +116,10 @@ fn integ<H: Host>(alloc: Global, host: &mut H) -> Status
 /// Says an answer. Its status is that of the call, unless the device fails.
 fn say<H: Host>(host: &mut H, text: &str, status: Status) -> Status
     requires { is_break status ≡ false }
-    ensures told { TellsOn (H.told host.old) (H.told host.new)
+    ensures host { WasUsed H.told H.failures host.old host.new
         (Answers (record { text = text.now; status = status }) result) }
     ensures status { (result ≡ status) ⊎ (result ≡ Status.SayFault) }
     ensures fault { result ≡ Status.SayFault → Rose (H.failures host.old).say (H.failures host.new).say }
-    ensures failures { NeverFell (H.failures host.old) (H.failures host.new) }
     ensures clock { H.moment host.new ≡ counted (H.moment host.old) }
 {
     match host.say(text.as_bytes()) {

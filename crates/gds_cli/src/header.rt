@@ -1,5 +1,6 @@
 ghost use Rattle.std.specs.Prelude.{◌≡◌, IfOk, IfSome, IsErrOf, None};
-ghost use Rattle.host_model.specs.Failures.{NeverFell, Rose};
+ghost use Rattle.host_model.specs.Failures.{Rose};
+ghost use Rattle.host_model.specs.Frames.{WasRead};
 ghost use Rattle.gds_header.specs.Kinds.{ending_kind};
 
 use gds_header::{HEADER_LENGTH, Header, HeaderKind};
@@ -28,8 +29,7 @@ impl From<HostFailed> for Unread {
 /// for the header alone.
 pub(crate) fn ending_kind<H: Host>(host: &mut H) -> Result<Option<HeaderKind>, Unread>
     ensures kind { IfOk result (λ kind. IfSome (H.told host.old) (λ c. kind ≡ ending_kind c.db)) }
-    ensures told { H.told host.new ≡ H.told host.old }
-    ensures failures { NeverFell (H.failures host.old) (H.failures host.new) }
+    ensures host { WasRead H.told H.failures host.old host.new }
     ensures failed { IsErrOf result Unread.Failed → Rose (H.failures host.old).read (H.failures host.new).read }
     ensures changed { IsErrOf result Unread.Changed → H.told host.old ≡ None }
 {

@@ -1,7 +1,7 @@
 ghost use Rattle.std.specs.Prelude.{◌≡◌, true, false, MatchOption, drop, map, string_bytes};
 ghost use Rattle.std.specs.List.{list_all};
 ghost use Rattle.m_text.specs.Written.{is_printable};
-ghost use Rattle.gds_cli.specs.Words.{command_of, alone, extract_of, leads_stamp, stamp_of};
+ghost use Rattle.gds_cli.specs.Words.{command_in, alone, extract_of, leads_stamp, stamp_of};
 
 use arrayvec::ArrayVec;
 use thiserror::Error;
@@ -33,7 +33,7 @@ pub struct BadWords {
 
 /// The command that the words name. Letters of its name and of a qualifier's may have any case.
 pub fn read_words(words: &[String]) -> Result<Command, BadWords>
-    ensures { result ≡ command_of (map string_bytes words.now) }
+    ensures { result ≡ command_in words.now }
 {
     let Some((name, rest)) = words.split_first() else {
         return Err(BadWords { place: 0 });

@@ -1,2 +1,2 @@
-pub mod Ending
-pub mod Writing
+pub mod EndingLemmas
+pub mod WritingLemmas

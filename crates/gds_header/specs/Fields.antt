@@ -1,22 +1,8 @@
 -- Where the fields of a header stand in the bytes of a file, and where the blocks do.
 use Rattle.std.specs.Prelude.{ℕ, ◌+◌, ◌*◌, List, [], ◌∷◌, take, drop, replicate, codes}
 use Rattle.std.specs.List.{concat}
-use Rattle.std.specs.Int.{w32, w64, from_le_bytes, to_le_bytes}
+use Rattle.gds_block.specs.Fields.{u32_at, u64_at, u32_bytes, u64_bytes}
 use Rattle.gds_header.specs.declared.header.Header.{Header}
-
--- the number in the 4 or 8 bytes from a place, the lowest byte first
-unfoldable pub u32_at : ℕ → List ℕ → ℕ
-u32_at at bytes = from_le_bytes w32 (take 4 (drop at bytes))
-
-unfoldable pub u64_at : ℕ → List ℕ → ℕ
-u64_at at bytes = from_le_bytes w64 (take 8 (drop at bytes))
-
--- and back: the bytes of a number, the lowest first
-unfoldable pub u32_bytes : ℕ → List ℕ
-u32_bytes n = to_le_bytes w32 n
-
-unfoldable pub u64_bytes : ℕ → List ℕ
-u64_bytes n = to_le_bytes w64 n
 
 -- the label of each file
 abbrev pub label : List ℕ
@@ -25,14 +11,14 @@ label = codes "GDSPROF1"
 -- the header of a file, field by field
 abbrev pub fields_of : List ℕ → Header
 fields_of image = record {
-  block_size = u32_at 8 image;
-  total = u32_at 12 image;
-  free = u32_at 16 image;
-  extension = u32_at 20 image;
-  limit = u32_at 24 image;
-  key_max = u32_at 28 image;
-  value_max = u32_at 32 image;
-  tn = u64_at 40 image;
+  block_size = u32_at image 8;
+  total = u32_at image 12;
+  free = u32_at image 16;
+  extension = u32_at image 20;
+  limit = u32_at image 24;
+  key_max = u32_at image 28;
+  value_max = u32_at image 32;
+  tn = u64_at image 40;
   master = take 256 (drop 4096 image);
 }
 

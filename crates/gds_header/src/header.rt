@@ -1,10 +1,11 @@
 ghost use Rattle.std.specs.Prelude.{◌≡◌, ◌≢◌, ℕ, ◌+◌, ◌<◌, ◌≤◌, List, ◌++◌, length, take, drop, IfOk, IfErr, Some, None, option_map, nat_lt, if◌then◌else◌};
-ghost use Rattle.gds_header.specs.Fields.{u32_at, u64_at, u32_bytes, u64_bytes, fields_of, file_length_of, header_bytes};
+ghost use Rattle.gds_header.specs.Fields.{fields_of, file_length_of, header_bytes};
 ghost use Rattle.std.specs.Int.{bit_at};
 ghost use Rattle.gds_header.specs.Kinds.{kind_of, keeps_block_limits, keeps_record_limits, IsWithinLimits, EachFileEnds, unreadable, has_free};
 ghost use Rattle.gds_header.specs.declared.kind.HeaderKind.TheVariants.{ShortFile};
 
 use super::kind::HeaderFault;
+use gds_block::{put_bytes, put_u32, put_u64, u32_at, u64_at};
 
 /// How many bytes a file's header has.
 pub const HEADER_LENGTH: usize = 8192;
@@ -69,7 +70,7 @@ impl Header {
         ensures readable { IsWithinLimits self.now → unreadable out.new ≡ None }
     {
         out.fill(0);
-        put(out, 0, &LABEL);
+        put_bytes(out, 0, &LABEL);
         put_u32(out, 8, self.block_size);
         put_u32(out, 12, self.total);
         put_u32(out, 16, self.free);
@@ -78,7 +79,7 @@ impl Header {
         put_u32(out, 28, self.key_max);
         put_u32(out, 32, self.value_max);
         put_u64(out, 40, self.tn);
-        put(out, 4096, &self.master);
+        put_bytes(out, 4096, &self.master);
     }
 
     /// Whether the master map says that the group has a free block.
@@ -162,50 +163,6 @@ impl Header {
             && 20 + u64::from(self.key_max) + u64::from(self.value_max)
                 <= u64::from(self.block_size)
     }
-}
-
-#[tactic(auto, unfolding(crate::specs::Fields::u32_at))]
-fn u32_at(bytes: &[u8], at: usize) -> u32
-    requires { at + 4 ≤ length bytes.now }
-    ensures { result ≡ u32_at at bytes.now }
-{
-    let mut number = [0; 4];
-    number.copy_from_slice(&bytes[at..at + 4]);
-    u32::from_le_bytes(number)
-}
-
-#[tactic(auto, unfolding(crate::specs::Fields::u64_at))]
-fn u64_at(bytes: &[u8], at: usize) -> u64
-    requires { at + 8 ≤ length bytes.now }
-    ensures { result ≡ u64_at at bytes.now }
-{
-    let mut number = [0; 8];
-    number.copy_from_slice(&bytes[at..at + 8]);
-    u64::from_le_bytes(number)
-}
-
-/// Copies the bytes to a place.
-fn put(out: &mut [u8], at: usize, bytes: &[u8])
-    requires { at + length bytes.now ≤ length out.old }
-    ensures { out.new ≡ take at out.old ++ (bytes.now ++ drop (at + length bytes.now) out.old) }
-{
-    out[at..at + bytes.len()].copy_from_slice(bytes);
-}
-
-#[tactic(auto, unfolding(crate::specs::Fields::u32_bytes))]
-fn put_u32(out: &mut [u8], at: usize, number: u32)
-    requires { at + 4 ≤ length out.old }
-    ensures { out.new ≡ take at out.old ++ (u32_bytes number ++ drop (at + 4) out.old) }
-{
-    put(out, at, &number.to_le_bytes());
-}
-
-#[tactic(auto, unfolding(crate::specs::Fields::u64_bytes))]
-fn put_u64(out: &mut [u8], at: usize, number: u64)
-    requires { at + 8 ≤ length out.old }
-    ensures { out.new ≡ take at out.old ++ (u64_bytes number ++ drop (at + 8) out.old) }
-{
-    put(out, at, &number.to_le_bytes());
 }
 
 /// The byte with a bit set or cleared; bit 0 is the lowest.

@@ -19,182 +19,15 @@ use Rattle.m_key.proofs.KeyLemmas.{Right}
 use Rattle.m_key.proofs.Numbers.{numbers}
 use Rattle.m_key.specs.KeyEnd.{key_len}
 use Rattle.gds_law.specs.Number.{is_number_text, is_number_bytes}
-use Rattle.gds_law.specs.Key.{name_part, subscript_parts, is_name, unescaped, is_text, subscript_fault, first_fault, key_fault}
+use Rattle.m_key.specs.Node.{is_name}
+use Rattle.m_key.specs.KeyParts.{name_part, pieces, subscript_parts, unescaped}
+use Rattle.m_key.proofs.EscapeLemmas.{escaped-plain}
+use Rattle.m_key.proofs.KeyPartLemmas.{is_name-Decides, pieces-joined, Bytes, bytes_pieces, bytes_rest, bytes_front, two_zeros, joined_key, subscript_parts-is, whole_pieces}
+use Rattle.m_key.proofs.UnescapeLemmas.{unescaped_again, text_again}
+use Rattle.gds_law.specs.Key.{is_text, subscript_fault, first_fault, key_fault}
 use Rattle.gds_law.specs.declared.kind.FaultKind.{FaultKind}
 use Rattle.gds_law.specs.declared.kind.FaultKind.TheVariants.{BadName, TooManySubscripts, BadNumber, BadString, NullSubscript}
 use Rattle.gds_law.proofs.NumberLaws.{text_test, bytes_test}
-
--- ---- names
-
-pub is_name-Decides : (name : List ℕ) → (is_name name ≡ true → IsName name) × (IsName name → is_name name ≡ true)
-is_name-Decides name = (
-  λ t. let p = and_parts (is_word name) (nat_le (length name) 31) t in record { word = p.0; count = leb-true (length name) 31 p.1 },
-  λ h. and_from (is_word name) (nat_le (length name) 31) h.word (le-leb (length name) 31 h.count),
-)
-
--- ---- the pieces between zeros
-
-abbrev pub parts : List ℕ → List (List ℕ)
-parts bytes = slice_split (λ b. b == 0) bytes
-
-split_step : (b : ℕ) (rest : List ℕ) (more : List (List ℕ)) (t : Bool) (n : ℕ) → more ≡ take n rest ∷ drop 1 more → cond t ([] ∷ more) (onto_first b more) ≡ take (cond (not t) (1 + n) 0) (b ∷ rest) ∷ drop 1 (cond t ([] ∷ more) (onto_first b more))
-split_step b rest [] t n e = absurd (cc)
-split_step b rest (part ∷ more) true n e = refl
-split_step b rest (part ∷ more) false n e =
-    let same : part ≡ take n rest = cc in
-    ap (λ xs. (b ∷ xs) ∷ more) same ∙ ap (λ k. take k (b ∷ rest) ∷ more) (sym (one-add n))
-
--- the first of them is the name
-pub first_part : (bytes : List ℕ) → parts bytes ≡ name_part bytes ∷ drop 1 (parts bytes)
-first_part [] = refl
-first_part (b ∷ bytes) = split_step b bytes (parts bytes) (b == 0) (prefix_len (λ b. not (b == 0)) bytes) (first_part bytes)
-
--- a name goes no further than a zero
-name_part-append : (front rest : List ℕ) → name_part (front ++ 0 ∷ rest) ≡ name_part front
-name_part-append [] rest = refl
-name_part-append (b ∷ front) rest =
-    take_while-cons (λ b. not (b == 0)) b (front ++ 0 ∷ rest) ∙ ap (λ xs. cond (not (b == 0)) (b ∷ xs) []) (name_part-append front rest)
-    ∙ sym (take_while-cons (λ b. not (b == 0)) b front)
-
--- bytes without zeros are one piece
-parts_alone : (xs : List ℕ) → NoZero xs → parts xs ≡ xs ∷ []
-parts_alone [] h = refl
-parts_alone (x ∷ xs) h = slice_split-cons_no (λ b. b == 0) x xs (ne_eqb x 0 (λ e. omega (arith, h.0))) ∙ ap (onto_first x) (parts_alone xs h.1)
-
-parts_ended : (xs ys : List ℕ) → NoZero xs → parts (xs ++ 0 ∷ ys) ≡ xs ∷ parts ys
-parts_ended [] ys h = refl
-parts_ended (x ∷ xs) ys h = slice_split-cons_no (λ b. b == 0) x (xs ++ 0 ∷ ys) (ne_eqb x 0 (λ e. omega (arith, h.0))) ∙ ap (onto_first x) (parts_ended xs ys h.1)
-
-parts-joined : (xs : List ℕ) (more : List (List ℕ)) → NoZero xs → AllByRecursion NoZero more → parts (join_with_byte 0 (xs ∷ more)) ≡ xs ∷ more
-parts-joined xs [] h k = parts_alone xs h
-parts-joined xs (ys ∷ more) h k = parts_ended xs (join_with_byte 0 (ys ∷ more)) h ∙ ap (λ l. xs ∷ l) (parts-joined ys more k.0 k.1)
-
--- the bytes of pieces are those of the whole
-abbrev Bytes : List ℕ → Type 0
-Bytes xs = AllByRecursion (λ b. b < 256) xs
-
-bytes_step : (b : ℕ) (more : List (List ℕ)) (t : Bool) → b < 256 → AllByRecursion Bytes more → AllByRecursion Bytes (cond t ([] ∷ more) (onto_first b more))
-bytes_step b more true h k = (tt, k)
-bytes_step b [] false h k = ((h, tt), tt)
-bytes_step b (part ∷ more) false h k = ((h, k.0), k.1)
-
-bytes_parts : (bytes : List ℕ) → Bytes bytes → AllByRecursion Bytes (parts bytes)
-bytes_parts [] h = (tt, tt)
-bytes_parts (b ∷ bytes) h = bytes_step b (parts bytes) (b == 0) h.0 (bytes_parts bytes h.1)
-
-bytes_rest : (all : List (List ℕ)) → AllByRecursion Bytes all → AllByRecursion Bytes (drop 1 all)
-bytes_rest [] h = h
-bytes_rest (part ∷ all) h = h.1
-
-bytes_front : (xs ys : List ℕ) → Bytes (xs ++ ys) → Bytes xs
-bytes_front [] ys h = tt
-bytes_front (x ∷ xs) ys h = (h.0, bytes_front xs ys h.1)
-
--- ---- the end of a key
-
-end_by : (b c : ℕ) (bytes : List ℕ) (t : Bool) → ((b == 0) && (c == 0)) ≡ t → (key_len (c ∷ bytes) ≡ Some (length (c ∷ bytes)) → (front : List ℕ) × (c ∷ bytes ≡ front ++ 0 ∷ 0 ∷ [])) → cond t (Some 2) (option_map suc (key_len (c ∷ bytes))) ≡ Some (length (b ∷ c ∷ bytes)) → (front : List ℕ) × (b ∷ c ∷ bytes ≡ front ++ 0 ∷ 0 ∷ [])
-end_by b c [] true t more h =
-    let p = and_parts (b == 0) (c == 0) t in
-    let e = eqb-true b 0 p.0 in
-    let f = eqb-true c 0 p.1 in
-    ([], cc)
-end_by b c (d ∷ bytes) true t more h =
-    let same : 2 ≡ length (b ∷ c ∷ d ∷ bytes) = cc in
-    absurd (omega arith)
-end_by b c bytes false t more h =
-    let r = more (one_less (key_len (c ∷ bytes)) (length (c ∷ bytes)) h) in
-    (b ∷ r.0, ap (λ xs. b ∷ xs) r.1)
-  where
-    one_less : (o : Option ℕ) (n : ℕ) → option_map suc o ≡ Some (suc n) → o ≡ Some n
-    one_less None n e = absurd (cc)
-    one_less (Some m) n e = let same : suc m ≡ suc n = cc in ap Some (omega arith)
-
--- a key ends with two zeros
-two_zeros : (key : List ℕ) → key_len key ≡ Some (length key) → (front : List ℕ) × (key ≡ front ++ 0 ∷ 0 ∷ [])
-two_zeros [] h = absurd (cc)
-two_zeros (b ∷ []) h = absurd (cc)
-two_zeros (b ∷ c ∷ bytes) h = end_by b c bytes ((b == 0) && (c == 0)) refl (two_zeros (c ∷ bytes)) h
-
-without_two : (front : List ℕ) → take (length (front ++ 0 ∷ 0 ∷ []) - 2) (front ++ 0 ∷ 0 ∷ []) ≡ front
-without_two front = take_at front (0 ∷ 0 ∷ []) _ (let e : length front ≡ length (front ++ 0 ∷ 0 ∷ []) - 2 = omega (arith, length-append front (0 ∷ 0 ∷ [])) in e)
-
--- a node's key, by its pieces
-joined_key : (name : List ℕ) (ss : List NodeSubscript) → join_with_byte 0 (name ∷ map subscript_bytes ss) ++ 0 ∷ 0 ∷ [] ≡ name ++ 0 ∷ (flat_map ended ss ++ 0 ∷ [])
-joined_key name [] = refl
-joined_key name (s ∷ ss) =
-    append_assoc name (0 ∷ join_with_byte 0 (subscript_bytes s ∷ map subscript_bytes ss)) (0 ∷ 0 ∷ [])
-    ∙ ap (λ xs. name ++ 0 ∷ xs) (joined_key (subscript_bytes s) ss ∙ sym (keys.ended-more s ss (0 ∷ [])))
-
--- ---- strings
-
-plain_front : (b : ℕ) (rest : List ℕ) → 1 < b → unescaped (b ∷ rest) ≡ option_map (λ text. b ∷ text) (unescaped rest)
-plain_front b [] h = cond-true (nat_lt 1 b) (Some (b ∷ [])) None (lt-ltb 1 b h)
-plain_front b (c ∷ rest) h = cond-true (nat_lt 1 b) _ _ (lt-ltb 1 b h)
-
-pub escaped-plain : (b : ℕ) → 1 < b → escaped b ≡ b ∷ []
-escaped-plain b h = grind (arith, nat_tests)
-
--- what is escaped in front is unescaped
-pub unescaped-escaped : (b : ℕ) (rest : List ℕ) → unescaped (escaped b ++ rest) ≡ option_map (λ text. b ∷ text) (unescaped rest)
-unescaped-escaped zero rest = refl
-unescaped-escaped (suc zero) rest = refl
-unescaped-escaped (suc (suc b)) rest = ap (λ xs. unescaped (xs ++ rest)) (escaped-plain (suc (suc b)) (omega arith)) ∙ plain_front (suc (suc b)) rest (omega arith)
-
-unescaped_again : (text : List ℕ) → unescaped (flat_map escaped text) ≡ Some text
-unescaped_again [] = refl
-unescaped_again (b ∷ text) = unescaped-escaped b (flat_map escaped text) ∙ ap (option_map (λ t. b ∷ t)) (unescaped_again text)
-
-abbrev Right_text : List ℕ → List ℕ → Type 0
-Right_text bytes text = (flat_map escaped text ≡ bytes) × (Bytes bytes → Bytes text)
-
-none_some : (text : List ℕ) → None ≡ Some text → ⊥
-none_some text e = absurd (cc)
-
-mapped : (b : ℕ) (o : Option (List ℕ)) (text : List ℕ) → option_map (λ t. b ∷ t) o ≡ Some text → (tail : List ℕ) × (o ≡ Some tail) × (text ≡ b ∷ tail)
-mapped b None text e = absurd (cc)
-mapped b (Some t) text e = (t, refl, cc)
-
-one_more : (b : ℕ) (rest more text tail : List ℕ) → escaped b ++ more ≡ rest → text ≡ b ∷ tail → (Bytes rest → (b < 256) × Bytes more) → Right_text more tail → Right_text rest text
-one_more b rest more text tail e f low r = (
-  ap (flat_map escaped) f ∙ ap (λ xs. escaped b ++ xs) r.0 ∙ e,
-  λ h. subst Bytes (sym f) ((low h).0, r.1 (low h).1),
-)
-
-plain_again : (b : ℕ) (rest text : List ℕ) → 1 < b → ((t : List ℕ) → unescaped rest ≡ Some t → Right_text rest t) → unescaped (b ∷ rest) ≡ Some text → Right_text (b ∷ rest) text
-plain_again b rest text l more e =
-    let m = mapped b (unescaped rest) text (sym (plain_front b rest l) ∙ e) in
-    one_more b (b ∷ rest) rest text m.0 (ap (λ xs. xs ++ rest) (escaped-plain b l)) m.2 (λ h. h) (more m.0 m.1)
-
-pair_is : (b c : ℕ) (bytes : List ℕ) → b ≡ 1 → (c == 1 ≡ true) ⊎ (c == 2 ≡ true) → escaped (c - 1) ++ bytes ≡ b ∷ c ∷ bytes
-pair_is b c bytes e (inl f) =
-    let g : c ≡ 1 = eqb-true c 1 f in
-    let first : escaped (c - 1) ++ bytes ≡ 1 ∷ 1 ∷ bytes = ap (λ x. escaped (x - 1) ++ bytes) g in
-    cc
-pair_is b c bytes e (inr f) =
-    let g : c ≡ 2 = eqb-true c 2 f in
-    let first : escaped (c - 1) ++ bytes ≡ 1 ∷ 2 ∷ bytes = ap (λ x. escaped (x - 1) ++ bytes) g in
-    cc
-
-pair_again : (b c : ℕ) (bytes text : List ℕ) (t : Bool) → ((b == 1) && (c == 1 || c == 2)) ≡ t → ((t : List ℕ) → unescaped bytes ≡ Some t → Right_text bytes t) → cond t (option_map (λ text. (c - 1) ∷ text) (unescaped bytes)) None ≡ Some text → Right_text (b ∷ c ∷ bytes) text
-pair_again b c bytes text true t more e =
-    let p = and_parts (b == 1) (c == 1 || c == 2) t in
-    let m = mapped (c - 1) (unescaped bytes) text e in
-    one_more (c - 1) (b ∷ c ∷ bytes) bytes text m.0 (pair_is b c bytes (eqb-true b 1 p.0) (or_cases (c == 1) (c == 2) p.1)) m.2 (λ h. (omega (arith, h.1.0), h.1.1)) (more m.0 m.1)
-pair_again b c bytes text false t more e = absurd (cc)
-
--- The bytes that are unescaped are a text's, escaped.
-text_again : (bytes text : List ℕ) → unescaped bytes ≡ Some text → Right_text bytes text
-text_again [] text e = let f : [] ≡ text = cc in (ap (flat_map escaped) (sym f), λ h. subst Bytes f tt)
-text_again (b ∷ []) text e =
-    elim (cases_Bool (nat_lt 1 b)) [
-      | inl t ↦ plain_again b [] text (ltb-true 1 b t) (text_again []) e
-      | inr t ↦ absurd (none_some text (sym (cond-false (nat_lt 1 b) (Some (b ∷ [])) None t) ∙ e))
-    ]
-text_again (b ∷ c ∷ bytes) text e =
-    elim (cases_Bool (nat_lt 1 b)) [
-      | inl t ↦ plain_again b (c ∷ bytes) text (ltb-true 1 b t) (text_again (c ∷ bytes)) e
-      | inr t ↦ pair_again b c bytes text ((b == 1) && (c == 1 || c == 2)) refl (text_again bytes) (sym (cond-false (nat_lt 1 b) (option_map (λ text. b ∷ text) (unescaped (c ∷ bytes))) _ t) ∙ e)
-    ]
 
 -- ---- subscripts
 
@@ -328,20 +161,13 @@ faultless key e = named (cases_Bool (is_name (name_part key)))
     named (inl t) = counted t (cases_lt 31 (length (subscript_parts key)))
     named (inr t) = let f : Some BadName ≡ None = sym (bad_name key t) ∙ e in absurd (cc)
 
--- the pieces of a key that ends with two zeros
-subscript_parts-is : (front : List ℕ) → subscript_parts (front ++ 0 ∷ 0 ∷ []) ≡ drop 1 (parts front)
-subscript_parts-is front = ap (λ xs. drop 1 (parts xs)) (without_two front)
-
-whole_parts : (front : List ℕ) → parts front ≡ name_part (front ++ 0 ∷ 0 ∷ []) ∷ subscript_parts (front ++ 0 ∷ 0 ∷ [])
-whole_parts front = first_part front ∙ ap₂ (λ (n : List ℕ) (ps : List (List ℕ)). n ∷ ps) (sym (name_part-append front (0 ∷ []))) (sym (subscript_parts-is front))
-
 key_node : (front : List ℕ) → Bytes (front ++ 0 ∷ 0 ∷ []) → Faultless (front ++ 0 ∷ 0 ∷ []) → (n : Node) × IsNode n × (key_bytes n ≡ front ++ 0 ∷ 0 ∷ [])
 key_node front low f =
-    let low_parts : AllByRecursion Bytes (subscript_parts (front ++ 0 ∷ 0 ∷ [])) = subst (λ (ps : List (List ℕ)). AllByRecursion Bytes ps) (sym (subscript_parts-is front)) (bytes_rest (parts front) (bytes_parts front (bytes_front front (0 ∷ 0 ∷ []) low))) in
+    let low_parts : AllByRecursion Bytes (subscript_parts (front ++ 0 ∷ 0 ∷ [])) = subst (λ (ps : List (List ℕ)). AllByRecursion Bytes ps) (sym (subscript_parts-is front)) (bytes_rest (pieces front) (bytes_pieces front (bytes_front front (0 ∷ 0 ∷ []) low))) in
     let r = are_subscripts (subscript_parts (front ++ 0 ∷ 0 ∷ [])) low_parts f.parts in
     let node : Node = record { name = name_part (front ++ 0 ∷ 0 ∷ []); subscripts = r.subscripts } in
     let size : length r.subscripts ≡ length (subscript_parts (front ++ 0 ∷ 0 ∷ [])) = sym (length-map r.subscripts subscript_bytes) ∙ ap length r.are in
-    let whole : join_with_byte 0 (name_part (front ++ 0 ∷ 0 ∷ []) ∷ map subscript_bytes r.subscripts) ≡ front = ap (λ ps. join_with_byte 0 (name_part (front ++ 0 ∷ 0 ∷ []) ∷ ps)) r.are ∙ ap (join_with_byte 0) (sym (whole_parts front)) ∙ join_with_byte-slice_split 0 front in (
+    let whole : join_with_byte 0 (name_part (front ++ 0 ∷ 0 ∷ []) ∷ map subscript_bytes r.subscripts) ≡ front = ap (λ ps. join_with_byte 0 (name_part (front ++ 0 ∷ 0 ∷ []) ∷ ps)) r.are ∙ ap (join_with_byte 0) (sym (whole_pieces front)) ∙ join_with_byte-slice_split 0 front in (
       node,
       record {
         name = (is_name-Decides (name_part (front ++ 0 ∷ 0 ∷ []))).0 f.name;
@@ -360,8 +186,8 @@ node_key n h =
     let front : List ℕ = join_with_byte 0 (n.name ∷ map subscript_bytes n.subscripts) in
     let key : key_bytes n ≡ join_with_byte 0 (n.name ∷ map subscript_bytes n.subscripts) ++ 0 ∷ 0 ∷ [] = keys.key-is n ∙ sym (joined_key n.name n.subscripts) in
     let right : Right n.subscripts = recursion_from_All IsSubscript n.subscripts h.subscripts in
-    let split : parts (join_with_byte 0 (n.name ∷ map subscript_bytes n.subscripts)) ≡ n.name ∷ map subscript_bytes n.subscripts = parts-joined n.name (map subscript_bytes n.subscripts) (keys.NoZero-name numbers n h) (no_zeros n.subscripts right) in
-    let both : name_part (join_with_byte 0 (n.name ∷ map subscript_bytes n.subscripts) ++ 0 ∷ 0 ∷ []) ∷ subscript_parts (join_with_byte 0 (n.name ∷ map subscript_bytes n.subscripts) ++ 0 ∷ 0 ∷ []) ≡ n.name ∷ map subscript_bytes n.subscripts = sym (whole_parts (join_with_byte 0 (n.name ∷ map subscript_bytes n.subscripts))) ∙ split in
+    let split : pieces (join_with_byte 0 (n.name ∷ map subscript_bytes n.subscripts)) ≡ n.name ∷ map subscript_bytes n.subscripts = pieces-joined n.name (map subscript_bytes n.subscripts) (keys.NoZero-name numbers n h) (no_zeros n.subscripts right) in
+    let both : name_part (join_with_byte 0 (n.name ∷ map subscript_bytes n.subscripts) ++ 0 ∷ 0 ∷ []) ∷ subscript_parts (join_with_byte 0 (n.name ∷ map subscript_bytes n.subscripts) ++ 0 ∷ 0 ∷ []) ≡ n.name ∷ map subscript_bytes n.subscripts = sym (whole_pieces (join_with_byte 0 (n.name ∷ map subscript_bytes n.subscripts))) ∙ split in
     node_fault (key_bytes n) n h right (ap name_part key ∙ cc) (ap subscript_parts key ∙ cc)
   where
     node_fault : (key : List ℕ) (n : Node) → IsNode n → Right n.subscripts → name_part key ≡ n.name → subscript_parts key ≡ map subscript_bytes n.subscripts → key_fault key ≡ None

@@ -18,3 +18,4 @@ pub mod SoundOrder
 pub mod SoundKeys
 pub mod SoundPairs
 pub mod OneMap
+pub mod SinkLemmas

@@ -5,7 +5,7 @@ use Rattle.std.proofs.lemmas.Cmp.{nat_cmp_total}
 use Rattle.gds_header.specs.declared.kind.HeaderKind.{HeaderKind}
 use Rattle.gds_header.specs.Kinds.{ending_kind}
 use Rattle.gds_law.specs.Visit.{Visit, directory_root}
-use Rattle.gds_law.specs.Fault.{Told}
+use Rattle.gds_law.specs.declared.fault.Fault.{Fault}
 use Rattle.gds_law.specs.Path.{Steps, visit_at, path_cmp, front_of, ExtendsKept, IsTakenBefore, IsKept, AreKept, IsReached, AreReached}
 use Rattle.gds_law.specs.Tree.{tree_faults}
 use Rattle.gds_law.specs.Maps.{is_used, map_faults, count_faults}
@@ -191,7 +191,7 @@ module _ (image : List ℕ) where
       one_settled Steps path_cmp path_total path_exact (reached_rule kept) (reached_local kept) a b (settled_from_reached kept a h) (settled_from_reached kept b k)
 
   -- and so of faults
-  some_read : (faults : List Told) × AreFaultsRead image faults
+  some_read : (faults : List Fault) × AreFaultsRead image faults
   some_read =
       let k = some_kept in
       let r = some_reached k.0 in (
@@ -205,7 +205,7 @@ module _ (image : List ℕ) where
         },
       )
 
-  same_read : (a b : List Told) → AreFaultsRead image a → AreFaultsRead image b → a ≡ b
+  same_read : (a b : List Fault) → AreFaultsRead image a → AreFaultsRead image b → a ≡ b
   same_read a b h k =
       let e = same_kept h.kept k.kept h.are_kept k.are_kept in
       let r = same_reached k.kept h.reached k.reached (subst (λ kept. AreReached image kept h.reached) e h.are_reached) k.are_reached in
@@ -213,11 +213,11 @@ module _ (image : List ℕ) where
       ∙ (λ i. faults_of_header image ++ tree_faults image (e i) (r i) ++ map_faults image (is_used image (e i)) ++ count_faults image)
       ∙ sym k.whole
 
-  some_after : (o : Option HeaderKind) → (faults : List Told) × AreFaultsAfter o image faults
+  some_after : (o : Option HeaderKind) → (faults : List Fault) × AreFaultsAfter o image faults
   some_after (Some kind) = (faults_of_header image, refl)
   some_after None = some_read
 
-  same_after : (o : Option HeaderKind) (a b : List Told) → AreFaultsAfter o image a → AreFaultsAfter o image b → a ≡ b
+  same_after : (o : Option HeaderKind) (a b : List Fault) → AreFaultsAfter o image a → AreFaultsAfter o image b → a ≡ b
   same_after (Some kind) a b h k = h ∙ sym k
   same_after None a b h k = same_read a b h k
 

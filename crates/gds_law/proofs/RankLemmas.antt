@@ -8,7 +8,7 @@ use Rattle.gds_block.specs.Record.{Record, records_of}
 use Rattle.gds_law.specs.Kinds.{ends, head_kinds}
 use Rattle.gds_law.specs.Visit.{TreeRole, directory, global, Visit, Child}
 use Rattle.gds_law.specs.BlockReading.{BlockReading, PlacedRecord, reading_of, has_values, is_last, pointer_of, key_of}
-use Rattle.gds_law.specs.Record.{target_of, is_ended, child_to, child_of, is_sound}
+use Rattle.gds_law.specs.Record.{target_of, is_ended, child_to, children_of_record, is_sound}
 use Rattle.gds_law.specs.Block.{is_wrong_level, head_holds, kinds_of_head, children_from, children_of}
 use Rattle.gds_law.specs.declared.kind.FaultKind.{FaultKind}
 use Rattle.gds_law.specs.declared.kind.FaultKind.TheVariants.{WrongLevel}
@@ -66,7 +66,7 @@ in_if : {A : Type 0} (t : Bool) (xs : List A) (x : A) → IsIn (if t then xs els
 in_if true xs x i = i
 in_if false xs x i = absurd i
 
-child_falls : (b : BlockReading) (s : PlacedRecord) (c : Child) → is_wrong_level b.visit.level b.level ≡ false → IsIn (child_of b s) c → rank c.visit < rank b.visit
+child_falls : (b : BlockReading) (s : PlacedRecord) (c : Child) → is_wrong_level b.visit.level b.level ≡ false → IsIn (children_of_record b s) c → rank c.visit < rank b.visit
 child_falls b s c right i = by (pointer_of b s) refl i
   where
     by : (o : Option ℕ) → pointer_of b s ≡ o → IsIn (child_to b s o) c → rank c.visit < rank b.visit
@@ -81,8 +81,8 @@ children_fall : (b : BlockReading) (previous : List ℕ) (rs : List Record) (c :
 children_fall b previous [] c right i = absurd i
 children_fall b previous (r ∷ rs) c right i =
     let s : PlacedRecord = record { previous = previous; record_ = r } in
-    let j = in_unless (is_ended b s) (child_of b s ++ children_from b (key_of b s) rs) c i in
-    elim (in_either (child_of b s) (children_from b (key_of b s) rs) c j.1) [
+    let j = in_unless (is_ended b s) (children_of_record b s ++ children_from b (key_of b s) rs) c i in
+    elim (in_either (children_of_record b s) (children_from b (key_of b s) rs) c j.1) [
       | inl k ↦ child_falls b s c right k
       | inr k ↦ children_fall b (key_of b s) rs c right k
     ]

@@ -14,7 +14,7 @@ use Rattle.gds_block.specs.Block.{level_of}
 use Rattle.gds_law.specs.Kinds.{ends, head_kinds, record_kinds}
 use Rattle.gds_law.specs.Visit.{directory, global, Visit, Child}
 use Rattle.gds_law.specs.BlockReading.{BlockReading, PlacedRecord, reading_of, has_values, points, is_last, pointer_of, key_of, rest_of, size_of}
-use Rattle.gds_law.specs.Record.{holds, kinds_of, target_of, is_ended, child_to, child_of, is_sound}
+use Rattle.gds_law.specs.Record.{holds, kinds_of, target_of, is_ended, child_to, children_of_record, is_sound}
 use Rattle.gds_law.specs.Block.{is_wrong_level, head_holds, kinds_of_head, kinds_from, kinds_of_block, children_from, children_of}
 use Rattle.gds_law.specs.Path.{children_at, child_at}
 use Rattle.gds_law.specs.Stands.{items_from}
@@ -172,7 +172,7 @@ not_last b s z = let e = eqb-true b.level 0 z in and_left _ _ (le-ltb 0 b.level 
 
 -- A leaf of the directory has a child for each of its items: the root of the item's global.
 leaf_child : (b : BlockReading) (s : PlacedRecord) → IsCleanRecord b s → (b.level == 0) ≡ true → points b ≡ true
-    → map (λ (c : Child). c.visit) (child_of b s) ≡ root_of (record { key = key_of b s; rest = rest_of b s }) ∷ []
+    → map (λ (c : Child). c.visit) (children_of_record b s) ≡ root_of (record { key = key_of b s; rest = rest_of b s }) ∷ []
 unfolding target_of
 leaf_child b s c z d =
     let e = leaf_pointer b s c (not_last b s z) d in
@@ -191,7 +191,7 @@ leaf_children b previous [] c z d = refl
 leaf_children b previous (r ∷ rs) c z d =
     let s : PlacedRecord = seen previous r in
     ap (λ cs. map (λ (c : Child). c.visit) cs) (cond-false (is_ended b s) [] _ c.0.goes_on)
-    ∙ map_append (λ (c : Child). c.visit) (child_of b s) (children_from b (key_of b s) rs)
+    ∙ map_append (λ (c : Child). c.visit) (children_of_record b s) (children_from b (key_of b s) rs)
     ∙ (λ i. leaf_child b s c.0 z d i ++ leaf_children b (key_of b s) rs c.1 z d i)
     ∙ sym (ap (λ items. map root_of items) (cond-false (is_ended b s) [] _ c.0.goes_on))
 
@@ -219,7 +219,7 @@ target_below : (b : BlockReading) (s : PlacedRecord) (p : ℕ) → (b.level == 0
 unfolding target_of
 target_below b s p z = rw z (record { role = refl; level = refl })
 
-index_child : (b : BlockReading) (s : PlacedRecord) (c : Child) → (b.level == 0) ≡ false → IsIn (child_of b s) c → IsBelow b c
+index_child : (b : BlockReading) (s : PlacedRecord) (c : Child) → (b.level == 0) ≡ false → IsIn (children_of_record b s) c → IsBelow b c
 index_child b s c z i = by (pointer_of b s) i
   where
     made : (p : ℕ) → IsBelow b (record { offset = s.record_.offset; visit = target_of b s p })
@@ -238,11 +238,11 @@ index_children : (b : BlockReading) (previous : List ℕ) (rs : List Record) (c 
 index_children b previous [] c z i = absurd i
 index_children b previous (r ∷ rs) c z i = by (is_ended b (seen previous r)) i (index_children b (key_of b (seen previous r)) rs c z)
   where
-    by : (t : Bool) → IsIn (if t then [] else child_of b (seen previous r) ++ children_from b (key_of b (seen previous r)) rs) c
+    by : (t : Bool) → IsIn (if t then [] else children_of_record b (seen previous r) ++ children_from b (key_of b (seen previous r)) rs) c
         → (IsIn (children_from b (key_of b (seen previous r)) rs) c → IsBelow b c) → IsBelow b c
     by true j next = absurd j
     by false j next =
-        elim (in_either (child_of b (seen previous r)) (children_from b (key_of b (seen previous r)) rs) c j) [
+        elim (in_either (children_of_record b (seen previous r)) (children_from b (key_of b (seen previous r)) rs) c j) [
           | inl k ↦ index_child b (seen previous r) c z k
           | inr k ↦ next k
         ]
@@ -257,7 +257,7 @@ rising_sooner : (low high : ℕ) (cs : List Child) → low ≤ high → RisingFr
 rising_sooner low high [] l r = tt
 rising_sooner low high (c ∷ cs) l r = (omega (arith, r.0), r.1)
 
-child_rises : (b : BlockReading) (s : PlacedRecord) (cs : List Child) → RisingFrom (suc s.record_.offset) cs → RisingFrom s.record_.offset (child_of b s ++ cs)
+child_rises : (b : BlockReading) (s : PlacedRecord) (cs : List Child) → RisingFrom (suc s.record_.offset) cs → RisingFrom s.record_.offset (children_of_record b s ++ cs)
 child_rises b s cs r = by (pointer_of b s)
   where
     sooner : RisingFrom s.record_.offset cs
@@ -278,7 +278,7 @@ some_size level left h =
     let some : 1 ≤ least_size level = cond_both (level == 0) 5 8 (λ n. 1 ≤ n) (λ _. omega arith) (λ _. omega arith) in
     omega (arith, least, some)
 
-on_rises : (b : BlockReading) (s : PlacedRecord) (t : Bool) (cs : List Child) → RisingFrom (suc s.record_.offset) cs → RisingFrom s.record_.offset (if t then [] else child_of b s ++ cs)
+on_rises : (b : BlockReading) (s : PlacedRecord) (t : Bool) (cs : List Child) → RisingFrom (suc s.record_.offset) cs → RisingFrom s.record_.offset (if t then [] else children_of_record b s ++ cs)
 on_rises b s true cs r = tt
 on_rises b s false cs r = child_rises b s cs r
 

@@ -15,7 +15,9 @@ use Rattle.m_key.specs.KeyEnd.{key_len}
 use Rattle.m_key.proofs.KeyEndLemmas.{key_len-end_in, end_in-take_same, key_len-within}
 use Rattle.gds_law.specs.Kinds.{record_kinds}
 use Rattle.gds_law.specs.Visit.{TreeRole, Visit}
-use Rattle.gds_law.specs.Key.{name_part, subscript_parts, is_name, subscript_fault, first_fault, key_fault, is_text, unescaped}
+use Rattle.m_key.specs.Node.{is_name}
+use Rattle.m_key.specs.KeyParts.{name_part, subscript_parts, unescaped}
+use Rattle.gds_law.specs.Key.{subscript_fault, first_fault, key_fault, is_text}
 use Rattle.gds_law.specs.Number.{is_number_bytes}
 use Rattle.gds_law.specs.BlockReading.{BlockReading, PlacedRecord, is_last, full_of, key_end, key_of}
 use Rattle.gds_law.specs.Record.{holds, is_kind, has_key_fault, is_directory, is_other_global, is_ended}

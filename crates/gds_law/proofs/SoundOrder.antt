@@ -16,7 +16,7 @@ use Rattle.gds_block.specs.Item.{Item}
 use Rattle.gds_law.specs.Kinds.{record_kinds}
 use Rattle.gds_law.specs.Visit.{Visit, Child}
 use Rattle.gds_law.specs.BlockReading.{BlockReading, PlacedRecord, is_first, is_last, size_of, key_of, pointer_of}
-use Rattle.gds_law.specs.Record.{is_below, is_above_bound, is_below_bound, is_ended, low_of, high_of, target_of, child_to, child_of, is_sound}
+use Rattle.gds_law.specs.Record.{is_below, is_above_bound, is_below_bound, is_ended, low_of, high_of, target_of, child_to, children_of_record, is_sound}
 use Rattle.gds_law.specs.Block.{children_from}
 use Rattle.gds_law.specs.Stands.{items_from}
 use Rattle.gds_law.specs.Sound.{Tree, joined, forest_of, sound_tree}
@@ -267,7 +267,7 @@ target_bounds : (b : BlockReading) (s : PlacedRecord) (p : ℕ) → (b.level == 
 unfolding target_of
 target_bounds b s p z = rw z (refl, refl)
 
-child_ordered : (tree : Visit → Option Tree) (b : BlockReading) (s : PlacedRecord) (f : Tree) → (b.level == 0) ≡ false → EachOrdered tree (child_of b s) → forest_of tree (child_of b s) ≡ Some f → AreOrdered (low_of b s) (high_of b s) f.items
+child_ordered : (tree : Visit → Option Tree) (b : BlockReading) (s : PlacedRecord) (f : Tree) → (b.level == 0) ≡ false → EachOrdered tree (children_of_record b s) → forest_of tree (children_of_record b s) ≡ Some f → AreOrdered (low_of b s) (high_of b s) f.items
 child_ordered tree b s f z each h = by (pointer_of b s) each h
   where
     under : (p : ℕ) (t : Bool) → EachOrdered tree (if t then record { offset = s.record_.offset; visit = target_of b s p } ∷ [] else [])
@@ -311,10 +311,10 @@ index_ordered tree b previous [] low f z c place is each h = empty_ordered tree 
 index_ordered tree b previous (r ∷ rs) low f z c place is each h =
     let s : PlacedRecord = seen previous r in
     let rest : List Child = children_from b (key_of b s) rs in
-    let whole : children_from b previous (r ∷ rs) ≡ child_of b s ++ rest = cond-false (is_ended b s) [] _ c.0.goes_on in
-    let each' : EachOrdered tree (child_of b s ++ rest) = subst (EachOrdered tree) whole each in
-    let two = two_parts tree (child_of b s) rest f (ap (forest_of tree) (sym whole) ∙ h) in
-    let front = child_ordered tree b s two.front z (λ d t i. each' d t (in_left (child_of b s) rest d i)) two.first in
+    let whole : children_from b previous (r ∷ rs) ≡ children_of_record b s ++ rest = cond-false (is_ended b s) [] _ c.0.goes_on in
+    let each' : EachOrdered tree (children_of_record b s ++ rest) = subst (EachOrdered tree) whole each in
+    let two = two_parts tree (children_of_record b s) rest f (ap (forest_of tree) (sym whole) ∙ h) in
+    let front = child_ordered tree b s two.front z (λ d t i. each' d t (in_left (children_of_record b s) rest d i)) two.first in
     let front' : AreOrdered low (high_of b s) two.front.items = subst (λ w. AreOrdered w (high_of b s) two.front.items) is front in
     subst (AreOrdered low b.visit.high) (sym two.items)
     (elim (cases_Bool (is_last b s)) [
@@ -324,7 +324,7 @@ index_ordered tree b previous (r ∷ rs) low f z c place is each h =
           let whole' : two.front.items ≡ two.front.items ++ two.back.items = sym (append-nil two.front.items) ∙ ap (λ l. two.front.items ++ l) (sym empty) in
           subst (AreOrdered low b.visit.high) whole' (subst (λ high. AreOrdered low high two.front.items) (high_last b s l) front')
       | inr l ↦
-          let back = index_ordered tree b (key_of b s) rs (Some (key_of b s)) two.back z c.1 place.2 (low_later b (key_of b s) rs place.1) (λ d t i. each' d t (in_right (child_of b s) rest d i)) two.second in
+          let back = index_ordered tree b (key_of b s) rs (Some (key_of b s)) two.back z c.1 place.2 (low_later b (key_of b s) rs place.1) (λ d t i. each' d t (in_right (children_of_record b s) rest d i)) two.second in
           both_ordered low b.visit.high (key_of b s) two.front.items two.back.items
           (subst (λ high. AreOrdered low high two.front.items) (high_key b s l) front') back
           (subst (λ w. AboveLow w (key_of b s)) is (key_above b s c.0 l)) (key_high b s c.0 l)

@@ -22,7 +22,8 @@ use Rattle.m_key.proofs.PlaceLemmas.{place_total, place_same}
 use Rattle.gds_block.specs.Item.{Item}
 use Rattle.m_key.specs.KeyEnd.{key_len}
 use Rattle.gds_law.specs.Visit.{TreeRole, directory, global, directory_root}
-use Rattle.gds_law.specs.Key.{name_part, subscript_parts, key_fault}
+use Rattle.m_key.specs.KeyParts.{name_part, subscript_parts}
+use Rattle.gds_law.specs.Key.{key_fault}
 use Rattle.gds_law.specs.Record.{is_other_global}
 use Rattle.gds_law.specs.Path.{Steps, AreKept}
 use Rattle.gds_law.specs.Stands.{values_at, StandsFor}

@@ -7,10 +7,10 @@ use Rattle.gds_block.specs.Record as block
 use Rattle.gds_header.specs.declared.header.Header.{Header}
 use Rattle.gds_header.specs.Kinds.{through_first}
 use Rattle.gds_law.specs.Kinds.{ends, head_kinds}
-use Rattle.gds_law.specs.Fault.{Told}
+use Rattle.gds_law.specs.declared.fault.Fault.{Fault}
 use Rattle.gds_law.specs.Visit.{Visit, Child}
 use Rattle.gds_law.specs.BlockReading.{BlockReading, PlacedRecord, reading_of, size_of, key_of}
-use Rattle.gds_law.specs.Record.{kinds_of, is_ended, child_of, is_directory}
+use Rattle.gds_law.specs.Record.{kinds_of, is_ended, children_of_record, is_directory}
 use Rattle.gds_law.specs.declared.kind.FaultKind.{FaultKind}
 use Rattle.gds_law.specs.declared.kind.FaultKind.TheVariants.{BadVersion, TransactionTooNew, UsedTooSmall, UsedTooLarge, RootAtLevelZero, WrongLevel, EmptyBlock, RecordTooSmall, RecordTooLarge}
 
@@ -59,7 +59,7 @@ abbrev pub children_from : BlockReading → List ℕ → List Record → List Ch
 children_from b previous [] = []
 children_from b previous (r ∷ rs) =
     let s : PlacedRecord = record { previous = previous; record_ = r } in
-    if is_ended b s then [] else child_of b s ++ children_from b (key_of b s) rs
+    if is_ended b s then [] else children_of_record b s ++ children_from b (key_of b s) rs
 
 -- the kinds that are told of a block, each with its offset: those of its head at 0, and those of its records
 unfoldable pub kinds_of_block : BlockReading → List ℕ → List (ℕ × FaultKind)
@@ -68,11 +68,11 @@ kinds_of_block b bytes =
     map (λ kind. (0, kind)) head ++ (if list_any ends head then [] else kinds_from b bytes 16 [] (records_of bytes))
 
 -- the faults of a block that a path leads to, but for doubly allocated blocks
-abbrev pub fault_at : BlockReading → List (ℕ × ℕ) → (ℕ × FaultKind) → Told
+abbrev pub fault_at : BlockReading → List (ℕ × ℕ) → (ℕ × FaultKind) → Fault
 fault_at b path (offset, kind) =
     record { kind = kind; block = b.visit.block; offset = offset; level = b.level; path = path }
 
-abbrev pub faults_of_block : Header → List (ℕ × ℕ) → Visit → List ℕ → List Told
+abbrev pub faults_of_block : Header → List (ℕ × ℕ) → Visit → List ℕ → List Fault
 faults_of_block h path v bytes = let b = reading_of h v bytes in map (fault_at b path) (kinds_of_block b bytes)
 
 -- its children: the records with sound pointers, up to the first kind that ends the reading

@@ -1,6 +1,5 @@
 pub mod Kinds
 pub mod Visit
-pub mod Fault
 pub mod Number
 pub mod Key
 pub mod BlockReading
@@ -11,6 +10,7 @@ pub mod Tree
 pub mod Maps
 pub mod Faults
 pub mod Line
+pub mod Sink
 pub mod Stands
 pub mod Sound
 pub mod Shape

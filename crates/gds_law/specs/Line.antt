@@ -2,7 +2,7 @@
 use Rattle.std.specs.Prelude.{ℕ, ◌%◌, ◌==◌, true, List, [], ◌∷◌, ◌++◌, codes, flat_map, if◌then◌else◌}
 use Rattle.std.specs.Fmt.{decimal, digits}
 use Rattle.gds_law.specs.Kinds.{name_of}
-use Rattle.gds_law.specs.Fault.{Told}
+use Rattle.gds_law.specs.declared.fault.Fault.{Fault}
 use Rattle.gds_law.specs.declared.kind.FaultKind.{FaultKind}
 use Rattle.gds_law.specs.declared.kind.FaultKind.TheVariants.{ShortHeader, NotDatabase, BlockSizeNotMultiple, BlockSizeTooLarge, NoBlocks, BadLimit, ShortFile, LongFile, ReservedByte, BadTransactionNumber, BadVersion, TransactionTooNew, MapUsedTooSmall, MapUsedTooLarge, MapLevel, GroupMarkedFree, GroupMarkedFull, IllegalPair, UsedMarkedFree, UnusedMarkedBusy, PairPastTotal, WrongFreeCount}
 
@@ -53,12 +53,12 @@ abbrev pub path_text : List (ℕ × ℕ) → List ℕ
 path_text [] = codes " -"
 path_text (step ∷ steps) = flat_map (λ place. 32 ∷ place_text place) (step ∷ steps)
 
-abbrev pub text_about : Subject → Told → List ℕ
+abbrev pub text_about : Subject → Fault → List ℕ
 text_about file f = codes "file"
 text_about map f = hexadecimal f.block ++ codes " map"
 text_about tree f =
     place_text (f.block, f.offset) ++ codes " level " ++ decimal f.level ++ codes " path" ++ path_text f.path
 
 -- the line, without the byte that ends it
-unfoldable pub line_of : Told → List ℕ
+unfoldable pub line_of : Fault → List ℕ
 line_of f = name_of f.kind ++ codes " " ++ text_about (subject_of f.kind f.block) f

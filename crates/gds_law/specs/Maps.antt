@@ -7,7 +7,7 @@ use Rattle.gds_header.specs.declared.header.Header.{Header}
 use Rattle.gds_header.specs.Fields.{fields_of, block_of}
 use Rattle.gds_header.specs.Kinds.{groups_of, has_free}
 use Rattle.gds_law.specs.Kinds.{map_kinds, pair_kinds}
-use Rattle.gds_law.specs.Fault.{Told}
+use Rattle.gds_law.specs.declared.fault.Fault.{Fault}
 use Rattle.gds_law.specs.Path.{Steps}
 use Rattle.gds_law.specs.Tree.{is_reached}
 use Rattle.gds_law.specs.declared.kind.FaultKind.{FaultKind}
@@ -65,21 +65,21 @@ pair_holds image used group k PairPastTotal =
 pair_holds image used group k kind = false
 
 -- a fault of a block that no path tells of
-abbrev pub fault_of : ℕ → FaultKind → Told
+abbrev pub fault_of : ℕ → FaultKind → Fault
 fault_of block kind = record { kind = kind; block = block; offset = 0; level = 0; path = [] }
 
 -- the faults of a group: of its map, and then of each of its pairs
-abbrev pub pair_faults : List ℕ → (ℕ → Bool) → ℕ → ℕ → List Told
+abbrev pub pair_faults : List ℕ → (ℕ → Bool) → ℕ → ℕ → List Fault
 pair_faults image used group k = map (fault_of (map_number group + k)) (filter (pair_holds image used group k) pair_kinds)
 
-abbrev pub group_faults : List ℕ → (ℕ → Bool) → ℕ → List Told
+abbrev pub group_faults : List ℕ → (ℕ → Bool) → ℕ → List Fault
 group_faults image used group =
     map (fault_of (map_number group)) (filter (map_holds image group) map_kinds)
     ++ flat_map (pair_faults image used group) places
 
 -- the faults of all maps, by block number, and then that of the free count
-unfoldable pub map_faults : List ℕ → (ℕ → Bool) → List Told
+unfoldable pub map_faults : List ℕ → (ℕ → Bool) → List Fault
 map_faults image used = flat_map (group_faults image used) (range_with_len 0 (groups_of (fields_of image)))
 
-abbrev pub count_faults : List ℕ → List Told
+abbrev pub count_faults : List ℕ → List Fault
 count_faults image = if (fields_of image).free == free_blocks image then [] else fault_of 0 WrongFreeCount ∷ []

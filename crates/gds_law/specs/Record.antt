@@ -9,7 +9,8 @@ use Rattle.m_key.specs.KeyEnd.{shared}
 use Rattle.gds_law.specs.Kinds.{ends, record_kinds}
 use Rattle.gds_law.specs.Visit.{TreeRole, directory, global, Visit, Child, global_root}
 use Rattle.gds_law.specs.BlockReading.{BlockReading, PlacedRecord, is_first, size_of, is_last, full_of, key_end, key_of, rest_of, points, pointer_of}
-use Rattle.gds_law.specs.Key.{key_fault, name_part, subscript_parts}
+use Rattle.m_key.specs.KeyParts.{name_part, subscript_parts}
+use Rattle.gds_law.specs.Key.{key_fault}
 use Rattle.gds_law.specs.declared.kind.FaultKind.{FaultKind}
 use Rattle.gds_law.specs.declared.kind.FaultKind.TheVariants.{StarSize, StarCount, FirstCount, CountTooLarge, KeyTooLong, KeyWithoutEnd, WrongCount, KeyOutOfOrder, BadName, TooManySubscripts, BadNumber, BadString, NullSubscript, DirectorySubscript, WrongGlobal, KeyAboveBound, KeyBelowBound, RestNotPointer, ValueTooLong, PointerNotPositive, PointerTooLarge, PointerToMap}
 
@@ -110,5 +111,5 @@ child_to b s None = []
 child_to b s (Some p) = if is_sound b p then record { offset = s.record_.offset; visit = target_of b s p } ∷ [] else []
 
 -- the child of a record that doesn't end the reading, if its pointer is sound
-abbrev pub child_of : BlockReading → PlacedRecord → List Child
-child_of b s = child_to b s (pointer_of b s)
+abbrev pub children_of_record : BlockReading → PlacedRecord → List Child
+children_of_record b s = child_to b s (pointer_of b s)

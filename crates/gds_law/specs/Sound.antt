@@ -12,7 +12,7 @@ use Rattle.gds_header.specs.Kinds.{header_faults, groups_of, has_free}
 use Rattle.gds_block.specs.Item.{Item}
 use Rattle.gds_law.specs.Visit.{Visit, Child, directory_root, global_root}
 use Rattle.gds_law.specs.BlockReading.{reading_of}
-use Rattle.gds_law.specs.Key.{name_part}
+use Rattle.m_key.specs.KeyParts.{name_part}
 use Rattle.gds_law.specs.Block.{kinds_of_block}
 use Rattle.gds_law.specs.Path.{children_at}
 use Rattle.gds_law.specs.Maps.{map_number, map_of, is_present, has_free_place, free_blocks}

@@ -1,5 +1,8 @@
 -- Where a path leads: a block, and what is due there.
-use Rattle.std.specs.Prelude.{ℕ, List, Option, None}
+use Rattle.std.specs.Prelude.{ℕ, List, Option, None, option_map}
+use Rattle.gds_law.specs.declared.role.Role.{Role}
+use Rattle.gds_law.specs.declared.role.Role.TheVariants as variant
+use Rattle.gds_law.specs.declared.visit.Visit as code
 
 -- the directory, or a global by its name
 pub data TreeRole : Type 0 where
@@ -27,3 +30,17 @@ global_root block name = record { block = block; role = global name; level = Non
 pub record Child : Type 0 where
   pub offset : ℕ
   pub visit : Visit
+
+-- what contracts see of a role and of a visit
+abbrev pub role_of : Role → TreeRole
+role_of variant.Directory = directory
+role_of (variant.Global name) = global name.items
+
+abbrev pub visit_of : code.Visit → Visit
+visit_of v = record {
+  block = v.block;
+  role = role_of v.role;
+  level = v.level;
+  low = option_map (λ key. key.items) v.low;
+  high = option_map (λ key. key.items) v.high;
+}

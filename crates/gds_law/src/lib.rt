@@ -12,6 +12,7 @@ mod path_laws;
 mod role;
 mod sink;
 mod sound_laws;
+mod visit;
 
 pub use fault::Fault;
 pub use kind::FaultKind;
@@ -22,6 +23,7 @@ pub use path_laws::{fault_lists, kept_paths};
 pub use role::Role;
 pub use sink::{FaultSink, SinkTrouble};
 pub use sound_laws::{one_map, readings_agree};
+pub use visit::Visit;
 
 #[cfg(test)]
 mod tests;

@@ -1,3 +1,4 @@
+pub mod CountLemmas
 pub mod LineLemmas
 pub mod PartLemmas
 pub mod ToldLemmas

@@ -1,7 +1,10 @@
 -- The first line of a text: where it ends in a front of the text, and what the list of lines begins with.
-use Rattle.std.proofs.Common.{◌≡◌, ℕ, suc, zero, ◌+◌, ◌-◌, ◌<◌, ◌≤◌, Bool, true, false, not, cond, eqb, List, [], ◌∷◌, ◌++◌, length, get_or, take, drop, map, Option, None, Some, refl, sym, ap, ◌∙◌, arith, ⊎_elim, length-append, length-take-le, take-append-drop, MatchOption}
+use Rattle.std.proofs.Common.{◌≡◌, ℕ, suc, zero, ◌+◌, ◌-◌, ◌<◌, ◌≤◌, Bool, true, false, not, cond, eqb, List, [], ◌∷◌}
+use Rattle.std.proofs.Common.{◌++◌, length, get_or, take, drop, map, Option, None, Some, refl, sym, ap, ◌∙◌, arith}
+use Rattle.std.proofs.Common.{⊎_elim, length-append, length-take-le, take-append-drop, MatchOption}
 use Rattle.std.proofs.lemmas.Bool.{lt-ltb, le-ltb, ne_eqb, cases_lt}
-use Rattle.std.proofs.lemmas.List.{take_rest, length-drop, take-append-le, drop-append-le, take-take, drop-drop, drop_at, drop_all, take_all}
+use Rattle.std.proofs.lemmas.List.{take_rest, length-drop, take-append-le, drop-append-le, take-take, drop-drop}
+use Rattle.std.proofs.lemmas.List.{drop_at, drop_all, take_all}
 use Rattle.std.proofs.lemmas.List.Splits.{slice_split_none, slice_split_first, length-slice_split}
 use Rattle.std.proofs.lemmas.List.Sums.{fails_before_first, prefix_len-le-length, position_or_len_is}
 use Rattle.memchr.specs.Find.{IsFirstByte, is_byte}

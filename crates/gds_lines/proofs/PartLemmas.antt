@@ -1,5 +1,6 @@
 -- Parts of a list between two places.
-use Rattle.std.proofs.Common.{◌≡◌, ℕ, ◌+◌, ◌-◌, ◌≤◌, min, true, false, cond, eqb, List, ◌++◌, length, get_or, take, drop, slice_range, sym, ap, ◌∙◌, arith, ⊎_elim, length-take-le}
+use Rattle.std.proofs.Common.{◌≡◌, ℕ, ◌+◌, ◌-◌, ◌≤◌, min, true, false, cond, eqb, List, ◌++◌, length, get_or, take}
+use Rattle.std.proofs.Common.{drop, slice_range, sym, ap, ◌∙◌, arith, ⊎_elim, length-take-le}
 use Rattle.std.proofs.Math.Seq.{take-add}
 use Rattle.std.proofs.lemmas.Bool.{cases_lt}
 use Rattle.std.proofs.lemmas.Slice.{between_is}

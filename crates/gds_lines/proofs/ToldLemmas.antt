@@ -1,5 +1,6 @@
 -- What is left of a text, from one moment to the next, where the source tells it.
-use Rattle.std.proofs.Common.{◌≡◌, ℕ, ◌+◌, ◌<◌, List, [], ◌∷◌, ◌++◌, map, length, take, Option, None, Some, IfSome, sym, ap, ◌∙◌, arith, append_assoc, length-append, ⊎_elim}
+use Rattle.std.proofs.Common.{◌≡◌, ℕ, ◌+◌, ◌<◌, List, [], ◌∷◌, ◌++◌, map, length, take, Option, None, Some, IfSome}
+use Rattle.std.proofs.Common.{sym, ap, ◌∙◌, arith, append_assoc, length-append, ⊎_elim}
 use Rattle.std.proofs.lemmas.Bool.{cases_lt}
 use Rattle.std.proofs.lemmas.List.{append-nil, nil_from_length, take_all}
 use Rattle.std.specs.Io.KnownBytes.{prepend_known}
@@ -7,7 +8,8 @@ use Rattle.std.specs.Str.Lines.{lines}
 use Rattle.host_model.specs.Told.{TellsOn}
 use Rattle.gds_lines.specs.declared.TheConstants.{LINE_LIMIT}
 use Rattle.gds_lines.specs.Lines.{line_len, first_line, after_first_line, given, next_line}
-use Rattle.gds_lines.proofs.LineLemmas.{LooksAs, LooksAs-refl, LooksAs-trans, LooksAs-shortened, next_line-front, after_first_line-front, after_first_line-unended, lines-first}
+use Rattle.gds_lines.proofs.LineLemmas.{LooksAs, LooksAs-refl, LooksAs-trans, LooksAs-shortened, next_line-front}
+use Rattle.gds_lines.proofs.LineLemmas.{after_first_line-front, after_first_line-unended, lines-first}
 
 -- a source gave bytes that are held now
 pub taken_behind : (held now got : List ℕ) (n : ℕ) → now ≡ held ++ got → (a b : Option (List ℕ)) → TellsOn a b (λ old new. (old ≡ got ++ new) × (n ≡ 0 → old ≡ [])) → TellsOn (prepend_known held a) (prepend_known now b) (λ old new. (new ≡ old) × (n ≡ 0 → new ≡ now))

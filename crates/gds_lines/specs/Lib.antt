@@ -1,3 +1,3 @@
 pub mod Lines
 pub mod Ahead
-pub mod Reading
+pub mod LinesState

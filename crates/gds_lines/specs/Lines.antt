@@ -1,6 +1,7 @@
 -- The lines of a text, and what a reader takes off its front. `lines` itself is std's: a line ends at byte 10, one
 -- byte 13 right before that byte is dropped, and a last line without byte 10 is a line unless it is empty.
-use Rattle.std.specs.Prelude.{◌≡◌, ℕ, ◌+◌, ◌==◌, Bool, nat_lt, if◌then◌else◌, List, [], ◌∷◌, length, take, Option, None, Some}
+use Rattle.std.specs.Prelude.{◌≡◌, ℕ, ◌+◌, ◌==◌, Bool, nat_lt, if◌then◌else◌, List, [], ◌∷◌, length, take, Option}
+use Rattle.std.specs.Prelude.{None, Some}
 use Rattle.std.specs.List.{position_or_len, before_first, after_first}
 use Rattle.std.specs.Str.Lines.{strip_carriage_return}
 use Rattle.gds_lines.specs.declared.TheConstants.{LINE_LIMIT}

@@ -1,8 +1,10 @@
-ghost use Rattle.std.specs.Prelude.{◌≡◌, ◌+◌, ◌<◌, ◌≤◌, [], ◌++◌, ℕ, length, take, drop, slice_range, vec_len, Some, IfSome, OnSome, IfOk, OnOk, OnErr};
+ghost use Rattle.std.specs.Prelude.{◌≡◌, ◌+◌, ◌<◌, ◌≤◌, [], ◌++◌, ℕ, length, take, drop, slice_range, vec_len, Some};
+ghost use Rattle.std.specs.Prelude.{IfSome, OnSome, IfOk, OnOk, OnErr};
 ghost use Rattle.std.specs.Option.{option_map};
 ghost use Rattle.host_model.specs.Failures.{Rose};
 ghost use Rattle.host_model.specs.Told.{TellsOn};
 ghost use Rattle.gds_lines.specs.Lines.{line_len, next_line, after_first_line};
+ghost use Rattle.gds_lines.specs.LinesState.{Counts};
 ghost use Rattle.gds_lines.specs.declared.ahead.TheConstants.{BUFFER_LIMIT};
 
 use crate::LINE_LIMIT;
@@ -122,6 +124,8 @@ impl Ahead {
         ensures count { IfOk result (λ n. length (held self.new) ≡ length (held self.old) + n) }
         ensures held { take (length (held self.old)) (held self.new) ≡ held self.old }
         ensures kept { OnErr result (length (held self.new) ≡ length (held self.old)) }
+        ensures counts { IfOk result (λ n. TellsOn (I.left source.old) (I.left source.new) (Counts 0 n)) }
+        ensures untaken { OnErr result (I.left source.new ≡ I.left source.old) }
         ensures few { IfOk result (λ n. n ≤ BUFFER_LIMIT) }
         ensures text { IfOk result (λ n. TellsOn (text_left self.old (I.left source.old))
             (text_left self.new (I.left source.new))
@@ -185,6 +189,8 @@ fn take_behind<I: Source>(
     ensures before { take at buffer.new.items ≡ take at buffer.old.items }
     ensures given { IfOk result (λ n. TellsOn (I.left source.old) (I.left source.new)
         (λ old new. (old ≡ take n (drop at buffer.new.items) ++ new) × (n ≡ 0 → old ≡ []))) }
+    ensures counts { IfOk result (λ n. TellsOn (I.left source.old) (I.left source.new) (Counts 0 n)) }
+    ensures kept { OnErr result (I.left source.new ≡ I.left source.old) }
     ensures failures { I.failures source.old ≤ I.failures source.new }
     ensures failed { OnErr result (Rose (I.failures source.old) (I.failures source.new)) }
 {

@@ -5,6 +5,7 @@ ghost use Rattle.host_model.specs.Failures.{Rose};
 ghost use Rattle.host_model.specs.Told.{TellsOn};
 ghost use Rattle.gds_lines.specs.Lines.{after_first_line, next_line};
 ghost use Rattle.gds_lines.specs.Ahead.{held, part, text_left};
+ghost use Rattle.gds_lines.specs.LinesState.{Counts};
 
 use crate::ahead::{Ahead, Span};
 use crate::scan::line_end;
@@ -25,6 +26,7 @@ pub(crate) fn find_line<I: Source>(
         (λ found. IfSome found (λ span. span.to ≤ vec_len ahead.new.buffer)) }
     ensures left { OnOk result (TellsOn (text_left ahead.old (I.left source.old))
         (text_left ahead.new (I.left source.new)) (λ text rest. rest ≡ after_first_line text)) }
+    ensures counts { TellsOn (I.left source.old) (I.left source.new) (Counts taken.old taken.new) }
     ensures held { length (held ahead.new) ≤ taken.new }
     ensures onward { taken.old + length (held ahead.new) ≤ taken.new + length (held ahead.old) }
     ensures passed { IfOk result (λ found. OnSome found
@@ -56,6 +58,7 @@ fn fill<I: Source>(source: &mut I, ahead: &mut Ahead, taken: &mut u64) -> Result
         (text_left ahead.new (I.left source.new))
         (λ old new. (new ≡ old) × (n ≡ 0 → new ≡ held ahead.new))) }
     ensures held { take (length (held ahead.old)) (held ahead.new) ≡ held ahead.old }
+    ensures counts { TellsOn (I.left source.old) (I.left source.new) (Counts taken.old taken.new) }
     ensures none { IfOk result (λ n. n ≡ 0 → held ahead.new ≡ held ahead.old) }
     ensures count { IfOk result (λ n. taken.new ≡ taken.old + n) }
     ensures passed { taken.old + length (held ahead.new) ≡ taken.new + length (held ahead.old) }

@@ -4,9 +4,11 @@
 //! line unless it is empty, and keeps a byte 13 at its end.
 #![tactic(auto)]
 
-ghost use Rattle.std.specs.Prelude.{◌≡◌, List, ℕ, map};
+ghost use Rattle.std.specs.Prelude.{◌≡◌, ◌↔◌, ◌<◌, List, ℕ, map, Some};
 ghost use Rattle.std.specs.Str.Lines.{lines};
 ghost use Rattle.gds_lines.specs.Lines.{AnswersInTurn, given};
+ghost use Rattle.gds_lines.specs.LinesState.{Counts, IsAboveLimit, LinesState, Reads};
+ghost use Rattle.host_model.specs.Told.{TellsOn};
 
 mod ahead;
 mod error;
@@ -30,5 +32,14 @@ pub fn answers_are_the_lines()
         → answers ≡ map given (lines text) }
 {}
 
-#[cfg(test)]
-mod tests;
+/// Of an input that its source tells, a reader took as many bytes as the source gave of it, after each call for a line
+/// as before the first; and these are more than [`INPUT_LIMIT`], where it is refused, exactly where the source gave
+/// more.
+pub fn taken_bytes_are_the_given()
+    ensures start { (input : List ℕ) (lines : LinesState) → lines.untaken ≡ Some input → lines.taken ≡ 0
+        → Reads input lines }
+    ensures onward { (input : List ℕ) (old new : LinesState) → Reads input old
+        → TellsOn old.untaken new.untaken (Counts old.taken new.taken) → Reads input new }
+    ensures refused { (input rest : List ℕ) (lines : LinesState) → Reads input lines → lines.untaken ≡ Some rest
+        → (INPUT_LIMIT < lines.taken) ↔ IsAboveLimit input rest }
+{}

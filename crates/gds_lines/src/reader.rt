@@ -4,7 +4,7 @@ ghost use Rattle.std.specs.Borrow.{sem};
 ghost use Rattle.std.specs.Io.BufRead.{Rests};
 ghost use Rattle.host_model.specs.Told.{TellsOn};
 ghost use Rattle.gds_lines.specs.Lines.{next_line};
-ghost use Rattle.gds_lines.specs.Reading.{IsEnd, LineTaken};
+ghost use Rattle.gds_lines.specs.LinesState.{IsEnd, LineTaken};
 
 use crate::LinesError;
 use crate::ahead::Ahead;
@@ -25,14 +25,15 @@ pub struct Lines<I: Source> {
 impl<I: Source> Model for Lines<I> {
     ghost use Rattle.std.specs.Prelude.{◌-◌, ◌≤◌, length, IsFalse};
     ghost use Rattle.gds_lines.specs.declared.TheConstants.{INPUT_LIMIT};
-    ghost use Rattle.gds_lines.specs.Reading.{Reading};
+    ghost use Rattle.gds_lines.specs.LinesState.{LinesState};
 
-    ghost Value = { Reading };
+    ghost Value = { LinesState };
 
     ghost use Rattle.gds_lines.specs.Ahead.{held, text_left};
 
     ghost view = { λ l. record {
       left = text_left l.ahead (I.left l.source);
+      untaken = I.left l.source;
       passed = l.taken - length (held l.ahead);
       taken = l.taken;
       refused = l.refused;
@@ -50,6 +51,7 @@ impl<I: Source> Lines<I> {
     pub fn new(alloc: Global, source: I) -> Lines<I>
         ensures { result ≡ record {
           left = I.left source;
+          untaken = I.left source;
           passed = 0;
           taken = 0;
           refused = false;
@@ -67,7 +69,9 @@ impl<I: Source> Lines<I> {
     /// The next line of the text without its line end, or None at the end of the text. A line of more than
     /// [`LINE_LIMIT`](crate::LINE_LIMIT) bytes is given as its first bytes, one more than the limit.
     ///
-    /// After an error no further line may be asked for.
+    /// Where the source tells its bytes, [`LinesError::InputTooLong`] comes exactly where it gave more than
+    /// [`INPUT_LIMIT`](crate::INPUT_LIMIT) of them. After an error no further line may be asked for.
+    #[tactic(auto, using(crate::proofs::CountLemmas::counts_ahead))]
     pub fn line(&mut self) -> Result<Option<&[u8]>, LinesError>
         requires { IsFalse self.old.refused }
         // Where the source tells its bytes, it is the first line of what was left.
@@ -86,6 +90,7 @@ impl<I: Source> Lines<I> {
 
     /// The source. Bytes that were taken from it and not given are lost.
     pub fn into_source(self) -> I
+        ensures untaken { I.left result ≡ self.untaken }
         ensures left { TellsOn self.left (I.left result) IsEnd }
         ensures failures { I.failures result ≡ self.failures }
     {

@@ -5,9 +5,10 @@ use Rattle.std.proofs.lemmas.Bool.{and_from, and_right, lt-ltb, le-leb, eq-eqb, 
 use Rattle.std.proofs.lemmas.List.{take_at, drop_at, drop_all, take-append-drop, drop-take, length-replicate}
 use Rattle.std.proofs.lemmas.Nat.{from_le_bytes-to_le_bytes_2, from_le_bytes-to_le_bytes_4}
 use Rattle.gds_block.specs.Block.{level_of, used_of, head_bytes, IsBlock}
-use Rattle.gds_block.specs.Fields.{u16_at}
+use Rattle.gds_block.specs.Fields.{u16_at, u32_at, u16_bytes, u32_bytes, u64_bytes}
+use Rattle.gds_block.proofs.HeadLemmas.{length-head_bytes}
 use Rattle.gds_block.specs.Record.{Record, bytes_left, size_of, least_size, is_well_sized, first_record, records_from, records_of, AreRecords}
-use Rattle.gds_block.proofs.RecordLaws.{records_from-unique}
+use Rattle.gds_block.proofs.RecordLemmas.{records_from-unique}
 use Rattle.gds_block.specs.Item.{Item}
 use Rattle.m_key.specs.KeyEnd.{IsKey, shared}
 use Rattle.gds_pack.specs.Packed.{record_size, record_bytes, records_size, records_bytes, packed_size, block_bytes, packed_record, packed_records}
@@ -20,11 +21,11 @@ use Rattle.gds_pack.proofs.SizeLaws.{length-record_bytes, length-records_bytes}
 
 module _ (previous : List ℕ) (i : Item) (tail : List ℕ) (fits : record_size previous i < 2 ^ 16) (small : shared previous i.key < 2 ^ 16) where
   size-record_bytes : size_of (record_bytes previous i ++ tail) ≡ record_size previous i
-  unfolding record_bytes
+  unfolding record_bytes u16_at u16_bytes
   size-record_bytes = from_le_bytes-to_le_bytes_2 (record_size previous i) fits
 
   count-record_bytes : u16_at (record_bytes previous i ++ tail) 2 ≡ shared previous i.key
-  unfolding record_bytes
+  unfolding record_bytes u16_at u16_bytes
   count-record_bytes = from_le_bytes-to_le_bytes_2 (shared previous i.key) small
 
   front-record_bytes : take (size_of (record_bytes previous i ++ tail)) (record_bytes previous i ++ tail) ≡ record_bytes previous i
@@ -32,7 +33,7 @@ module _ (previous : List ℕ) (i : Item) (tail : List ℕ) (fits : record_size 
       ap (λ n. take n (record_bytes previous i ++ tail)) size-record_bytes ∙ take_at (record_bytes previous i) tail (record_size previous i) (length-record_bytes previous i)
 
   body-record_bytes : drop 4 (record_bytes previous i) ≡ drop (shared previous i.key) i.key ++ i.rest
-  unfolding record_bytes
+  unfolding record_bytes u16_bytes
   body-record_bytes = refl
 
   first-record_bytes : (offset : ℕ) → first_record offset (record_bytes previous i ++ tail) ≡ packed_record offset previous i
@@ -189,11 +190,11 @@ AreRead-packable (suc level) is h room = AreRead-index level (packed_size is) 16
 
 module _ (is : List Item) (level tn room : ℕ) (fits : packed_size is ≤ room) (small : room ≤ 65024) where
   pub used_of-block_bytes : used_of (block_bytes is level tn room) ≡ packed_size is
-  unfolding block_bytes
+  unfolding block_bytes u32_at u16_bytes u32_bytes
   used_of-block_bytes = from_le_bytes-to_le_bytes_4 (packed_size is) (omega arith)
 
   pub level_of-block_bytes : level_of (block_bytes is level tn room) ≡ level
-  unfolding block_bytes
+  unfolding block_bytes u16_bytes
   level_of-block_bytes = refl
 
   pub length-block_bytes : length (block_bytes is level tn room) ≡ room
@@ -203,6 +204,7 @@ module _ (is : List Item) (level tn room : ℕ) (fits : packed_size is ≤ room)
         arith,
         length-append (head_bytes level (packed_size is) tn ++ records_bytes [] is) (replicate (room - packed_size is) 0),
         length-append (head_bytes level (packed_size is) tn) (records_bytes [] is),
+        length-head_bytes level (packed_size is) tn,
         length-records_bytes [] is,
         length-replicate {A = ℕ} (room - packed_size is) 0,
       )
@@ -214,7 +216,7 @@ module _ (is : List Item) (level tn room : ℕ) (fits : packed_size is ≤ room)
       record { head = omega arith; covered = omega arith; within = omega arith }
 
   behind_head : drop 16 (block_bytes is level tn room) ≡ records_bytes [] is ++ replicate (room - packed_size is) 0
-  unfolding block_bytes
+  unfolding block_bytes u16_bytes u32_bytes u64_bytes
   behind_head = refl
 
   bytes_left-block_bytes : bytes_left (block_bytes is level tn room) 16 ≡ records_bytes [] is

@@ -1,12 +1,13 @@
 -- Laws of the sizes of records, of their bytes, and of lists of them.
 use Rattle.std.proofs.Common.{ℕ, ◌≡◌, ◌+◌, ◌≤◌, List, [], ◌∷◌, ◌++◌, length, refl, arith, length-append, length-drop}
 use Rattle.gds_block.specs.Item.{Item}
+use Rattle.gds_block.proofs.FieldLemmas.{length-u16_bytes}
 use Rattle.gds_pack.specs.Packed.{record_size, record_bytes, records_size, records_bytes, packed_size, key_behind}
 use Rattle.m_key.proofs.KeyEndLemmas.{shared-le}
 
 pub length-record_bytes : (previous : List ℕ) (i : Item) → length (record_bytes previous i) ≡ record_size previous i
 unfolding record_bytes
-length-record_bytes previous i = simp (length-append, length-drop) (omega arith)
+length-record_bytes previous i = simp (length-append, length-drop, length-u16_bytes) (omega arith)
 
 pub length-records_bytes : (previous : List ℕ) (is : List Item) → length (records_bytes previous is) ≡ records_size previous is
 length-records_bytes previous [] = refl

@@ -1,6 +1,6 @@
 -- The bytes of a block with given entries. An item stands behind a key, the empty one for the first item.
 use Rattle.std.specs.Prelude.{ℕ, ◌+◌, ◌-◌, List, [], ◌∷◌, ◌++◌, length, drop, replicate}
-use Rattle.std.specs.Int.{w16, to_le_bytes}
+use Rattle.gds_block.specs.Fields.{u16_bytes}
 use Rattle.gds_block.specs.Block.{head_bytes}
 use Rattle.gds_block.specs.Record.{Record}
 use Rattle.gds_block.specs.Item.{Item}
@@ -13,7 +13,7 @@ record_size previous i = 4 + (length i.key - shared previous i.key) + length i.r
 -- that record: its size, the count of leading bytes that the keys share, the rest of the key, and what follows
 unfoldable pub record_bytes : List ℕ → Item → List ℕ
 record_bytes previous i =
-    to_le_bytes w16 (record_size previous i) ++ to_le_bytes w16 (shared previous i.key) ++ drop (shared previous i.key) i.key ++ i.rest
+    u16_bytes (record_size previous i) ++ u16_bytes (shared previous i.key) ++ drop (shared previous i.key) i.key ++ i.rest
 
 -- the records of items behind a key, and how many bytes they have
 abbrev pub records_bytes : List ℕ → List Item → List ℕ

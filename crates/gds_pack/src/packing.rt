@@ -7,7 +7,7 @@ ghost use Rattle.gds_pack.specs.Entry.{item, items};
 ghost use Rattle.gds_pack.specs.Unpacked.{entries_of};
 
 use crate::entry::Entry;
-use gds_block::write_head;
+use gds_block::{put_bytes, put_u16, write_head};
 use m_key::shared_len;
 
 /// How many bytes of a block are used where it has these entries: the head's 16 and the sizes of the
@@ -78,19 +78,9 @@ fn write_record(previous: &[u8], entry: &Entry, at: usize, out: &mut [u8]) -> us
     let key = &entry.key.as_slice()[count..];
     let rest = entry.rest.as_slice();
     let size = 4 + key.len() + rest.len();
-    let at = put(out, at, &(size as u16).to_le_bytes());
-    let at = put(out, at, &(count as u16).to_le_bytes());
-    let at = put(out, at, key);
-    put(out, at, rest)
-}
-
-// Writes bytes at a place, and answers where they end.
-fn put(out: &mut [u8], at: usize, bytes: &[u8]) -> usize
-    requires { at + length bytes.now ≤ length out.old }
-    ensures end { result ≡ at + length bytes.now }
-    ensures written { take result out.new ≡ take at out.old ++ bytes.now }
-{
-    let end = at + bytes.len();
-    out[at..end].copy_from_slice(bytes);
-    end
+    put_u16(out, at, size as u16);
+    put_u16(out, at + 2, count as u16);
+    put_bytes(out, at + 4, key);
+    put_bytes(out, at + 4 + key.len(), rest);
+    at + size
 }

@@ -1,1 +1,1 @@
-mod AnyLeft
+mod LeftLemmas

@@ -54,3 +54,16 @@ after_write ok old = record old {
 -- a host that tells nothing doesn't tell this
 pub tells_nothing : (now : Contents) → untold ≡ Some now → ⊥
 tells_nothing now e = cc
+
+-- what the clauses of a host speak of
+abbrev pub told_by : SystemHost → Option Contents
+told_by host = untold
+
+abbrev pub moment_of : SystemHost → ℕ
+moment_of host = host.moment
+
+abbrev pub failures_of : SystemHost → Failures
+failures_of host = host.failures
+
+abbrev pub left_by : SystemHost → ℕ → Contents → Type 0
+left_by host = any_left

@@ -1,8 +1,10 @@
 ghost use Rattle.std.specs.Prelude.{◌≡◌, ◌≤◌, length, is_ok, Ok, IsErr, IfOk, IfSome, OnOk, OnErr, MatchResult};
 ghost use Rattle.host_model.specs.Failures.{NeverFell, Rose, counted};
-ghost use Rattle.host_model.specs.Files.{Reads, file_of};
-ghost use Rattle.host_model.specs.Disk.{Changes, Cut, Elapses, Follows, SaysSome, Settles, Stays, Torn, during};
+ghost use Rattle.host_model.specs.Files.{AreBytes, Reads, file_of};
+ghost use Rattle.host_model.specs.Disk.{Changes, Cut, Follows, SaysSome, Settles, Torn, during};
+ghost use Rattle.host_model.specs.Frames.{ChangedNothing, WasCalled};
 ghost use Rattle.host_file.specs.System.{untold, any_left, tells_nothing, new_host, after_read, after_say, after_write};
+ghost use Rattle.host_file.specs.System.{told_by, moment_of, failures_of, left_by};
 
 use super::place::Place;
 use host_model::{FileNo, Host, HostFailed};
@@ -21,9 +23,9 @@ pub struct FileHost<'r, R: Files + Print> {
     db: Place<R::File>,
     images: Place<R::File>,
     clock: u64,
-    read_faults: u64,
-    write_faults: u64,
-    say_faults: u64,
+    read_failures: u64,
+    write_failures: u64,
+    say_failures: u64,
 }
 
 impl<'r, R: Files + Print> Model for FileHost<'r, R> {
@@ -36,7 +38,11 @@ impl<'r, R: Files + Print> Model for FileHost<'r, R> {
       db_path = string_bytes host.db.path;
       images_path = string_bytes host.images.path;
       moment = host.clock;
-      failures = record { read = host.read_faults; write = host.write_faults; say = host.say_faults };
+      failures = record {
+        read = host.read_failures;
+        write = host.write_failures;
+        say = host.say_failures;
+      };
     } };
 }
 
@@ -53,9 +59,9 @@ impl<'r, R: Files + Print> FileHost<'r, R> {
             db: Place::new(db),
             images: Place::new(images),
             clock: 0,
-            read_faults: 0,
-            write_faults: 0,
-            say_faults: 0,
+            read_failures: 0,
+            write_failures: 0,
+            say_failures: 0,
         })
     }
 
@@ -67,7 +73,7 @@ impl<'r, R: Files + Print> FileHost<'r, R> {
     {
         self.clock = self.clock.saturating_add(1);
         if outcome.is_err() {
-            self.write_faults = self.write_faults.saturating_add(1);
+            self.write_failures = self.write_failures.saturating_add(1);
             return Err(HostFailed);
         }
         Ok(())
@@ -84,7 +90,7 @@ impl<'r, R: Files + Print> FileHost<'r, R> {
         match outcome {
             Ok(value) => Ok(value),
             Err(_) => {
-                self.read_faults = self.read_faults.saturating_add(1);
+                self.read_failures = self.read_failures.saturating_add(1);
                 Err(HostFailed)
             }
         }
@@ -92,13 +98,13 @@ impl<'r, R: Files + Print> FileHost<'r, R> {
 }
 
 impl<'r, R: Files + Print> Host for FileHost<'r, R> {
-    ghost told = { λ _. untold };
+    ghost told = { told_by };
 
-    ghost moment = { λ host. host.moment };
+    ghost moment = { moment_of };
 
-    ghost failures = { λ host. host.failures };
+    ghost failures = { failures_of };
 
-    ghost left_since = { λ _. any_left };
+    ghost left_since = { left_by };
 
     ghost longer = { λ _ t u c le left. tt };
 
@@ -108,10 +114,8 @@ impl<'r, R: Files + Print> Host for FileHost<'r, R> {
 
     fn len(&mut self, file: FileNo) -> Result<u64, HostFailed>
         ensures length { IfOk result (λ n. IfSome untold (λ c. n ≡ length (file_of c file))) }
-        ensures crash { Stays (any_left self.old.moment) (any_left self.new.moment) }
-        ensures time { Elapses self.old.moment self.new.moment any_left any_left (any_left self.new.moment) }
-        ensures clock { self.new.moment ≡ counted self.old.moment }
-        ensures failures { NeverFell self.old.failures self.new.failures }
+        ensures bytes { IfSome untold AreBytes }
+        ensures kept { ChangedNothing told_by moment_of failures_of left_by self.old self.new }
         ensures failed { OnErr result (Rose self.old.failures.read self.new.failures.read) }
         ensures counts { self.new ≡ after_read (is_ok result) self.old }
     {
@@ -126,10 +130,7 @@ impl<'r, R: Files + Print> Host for FileHost<'r, R> {
     fn read(&mut self, file: FileNo, at: u64, out: &mut [u8]) -> Result<usize, HostFailed>
         ensures count { IfOk result (λ n. n ≤ length out.old) }
         ensures bytes { IfOk result (λ n. IfSome untold (λ c. Reads (file_of c file) at out.old out.new n)) }
-        ensures crash { Stays (any_left self.old.moment) (any_left self.new.moment) }
-        ensures time { Elapses self.old.moment self.new.moment any_left any_left (any_left self.new.moment) }
-        ensures clock { self.new.moment ≡ counted self.old.moment }
-        ensures failures { NeverFell self.old.failures self.new.failures }
+        ensures kept { ChangedNothing told_by moment_of failures_of left_by self.old self.new }
         ensures failed { OnErr result (Rose self.old.failures.read self.new.failures.read) }
         ensures counts { self.new ≡ after_read (is_ok result) self.old }
     {
@@ -142,10 +143,9 @@ impl<'r, R: Files + Print> Host for FileHost<'r, R> {
     }
 
     fn write_at(&mut self, file: FileNo, at: u64, bytes: &[u8]) -> Result<(), HostFailed>
-        ensures crash { Follows (Changes file (Torn at (length bytes.now))) (any_left self.old.moment) (any_left self.new.moment) }
-        ensures time { Elapses self.old.moment self.new.moment any_left any_left (any_left self.new.moment) }
-        ensures clock { self.new.moment ≡ counted self.old.moment }
-        ensures failures { NeverFell self.old.failures self.new.failures }
+        ensures crash { Follows (Changes file (Torn at (length bytes.now)))
+            (any_left self.old.moment) (any_left self.new.moment) }
+        ensures called { WasCalled moment_of failures_of left_by self.old self.new (any_left self.new.moment) }
         ensures failed { OnErr result (Rose self.old.failures.write self.new.failures.write) }
         ensures counts { self.new ≡ after_write (is_ok result) self.old }
     {
@@ -159,9 +159,7 @@ impl<'r, R: Files + Print> Host for FileHost<'r, R> {
 
     fn cut(&mut self, file: FileNo, len: u64) -> Result<(), HostFailed>
         ensures crash { Follows (Changes file (Cut len)) (any_left self.old.moment) (any_left self.new.moment) }
-        ensures time { Elapses self.old.moment self.new.moment any_left any_left (any_left self.new.moment) }
-        ensures clock { self.new.moment ≡ counted self.old.moment }
-        ensures failures { NeverFell self.old.failures self.new.failures }
+        ensures called { WasCalled moment_of failures_of left_by self.old self.new (any_left self.new.moment) }
         ensures failed { OnErr result (Rose self.old.failures.write self.new.failures.write) }
         ensures counts { self.new ≡ after_write (is_ok result) self.old }
     {
@@ -174,11 +172,9 @@ impl<'r, R: Files + Print> Host for FileHost<'r, R> {
     }
 
     fn sync(&mut self, file: FileNo) -> Result<(), HostFailed>
-        ensures settled { OnOk result (IfSome untold (λ c. Settles file (file_of c file) (any_left self.new.moment))) }
-        ensures crash { Stays (any_left self.old.moment) (any_left self.new.moment) }
-        ensures time { Elapses self.old.moment self.new.moment any_left any_left (any_left self.new.moment) }
-        ensures clock { self.new.moment ≡ counted self.old.moment }
-        ensures failures { NeverFell self.old.failures self.new.failures }
+        ensures settled { OnOk result
+            (IfSome untold (λ c. Settles file (file_of c file) (any_left self.new.moment))) }
+        ensures kept { ChangedNothing told_by moment_of failures_of left_by self.old self.new }
         ensures failed { OnErr result (Rose self.old.failures.write self.new.failures.write) }
         ensures counts { self.new ≡ after_write (is_ok result) self.old }
     {
@@ -192,15 +188,14 @@ impl<'r, R: Files + Print> Host for FileHost<'r, R> {
 
     fn say(&mut self, bytes: &[u8]) -> Result<(), HostFailed>
         ensures crash { Follows (SaysSome bytes.now) (any_left self.old.moment) (any_left self.new.moment) }
-        ensures time { Elapses self.old.moment self.new.moment any_left any_left (during (SaysSome bytes.now) (any_left self.old.moment)) }
-        ensures clock { self.new.moment ≡ counted self.old.moment }
-        ensures failures { NeverFell self.old.failures self.new.failures }
+        ensures called { WasCalled moment_of failures_of left_by self.old self.new
+            (during (SaysSome bytes.now) (any_left self.old.moment)) }
         ensures failed { OnErr result (Rose self.old.failures.say self.new.failures.say) }
         ensures counts { self.new ≡ after_say (is_ok result) self.old }
     {
         self.clock = self.clock.saturating_add(1);
         if self.rt.write_all(bytes).is_err() {
-            self.say_faults = self.say_faults.saturating_add(1);
+            self.say_failures = self.say_failures.saturating_add(1);
             return Err(HostFailed);
         }
         Ok(())

@@ -1,17 +1,23 @@
 -- What each call of a memory host leaves for a crash, from what it leaves of its record.
-use Rattle.std.proofs.Common.{◌≡◌, ◌⊎◌, ℕ, ◌+◌, ◌-◌, ◌^◌, ◌<◌, ◌≤◌, Bool, true, false, List, [], ◌∷◌, ◌++◌, length, take, Option, None, Some, Result, Ok, Err, is_ok, IsErr, OnErr, OnOk, if◌then◌else◌, arith, refl, sym, ap, subst, ◌∙◌, inl, inr, ⊎_elim}
+use Rattle.std.proofs.Common.{◌≡◌, ◌⊎◌, ℕ, ◌+◌, ◌-◌, ◌^◌, ◌<◌, ◌≤◌, Bool, true, false, List, [], ◌∷◌, ◌++◌, length}
+use Rattle.std.proofs.Common.{take, Option, None, Some, Result, Ok, Err, is_ok, IsErr, OnErr, OnOk, if◌then◌else◌}
+use Rattle.std.proofs.Common.{arith, refl, sym, ap, subst, ◌∙◌, inl, inr, ⊎_elim}
 use Rattle.std.proofs.lemmas.List.{append-nil}
 use Rattle.host_model.specs.declared.host.FileNo.{FileNo}
 use Rattle.host_model.specs.declared.host.FileNo.TheVariants.{Db, Images}
 use Rattle.host_model.specs.Failures.{Rose, counted}
 use Rattle.host_model.specs.Files.{Contents, Says, file_of, saying}
-use Rattle.host_model.specs.Disk.{Changes, Cut, Cuts, Elapses, Follows, SaysSome, Settles, Stays, Torn, Writes, during, written}
+use Rattle.host_model.specs.Disk.{Changes, Cut, Cuts, Elapses, Follows, SaysSome, Settles, Stays, Torn, Writes}
+use Rattle.host_model.specs.Disk.{during, written}
 use Rattle.host_mem.specs.declared.call.Call.{Call}
 use Rattle.host_mem.specs.History.{LeftSince, NumberedTo, State, apply, replayed, shown, start}
 use Rattle.host_mem.specs.Log.{Log, with_step}
 use Rattle.host_mem.specs.Memory.{Called, IsNumbered, Memory, contents_of, left_since, only_done, state_of, with_file}
 use Rattle.host_mem.specs.Step.{Step, Write, Cut as cuts, Sync, Say, number_of}
-use Rattle.host_mem.proofs.StateLemmas.{NumberedTo-later, NumberedTo-push, cut_follows, idle_elapses, idle_stays, last_only, other_than_db, other_than_images, plain_elapses, replayed-push, say_elapses, say_follows, settled_by_sync, stays_cut, stays_said, stays_torn, sync_stays, write_follows}
+use Rattle.host_mem.proofs.StateLemmas.{NumberedTo-later, NumberedTo-push, cut_follows, idle_elapses, idle_stays}
+use Rattle.host_mem.proofs.StateLemmas.{last_only, other_than_db, other_than_images, plain_elapses, replayed-push}
+use Rattle.host_mem.proofs.StateLemmas.{say_elapses, say_follows, settled_by_sync, stays_cut, stays_said, stays_torn}
+use Rattle.host_mem.proofs.StateLemmas.{sync_stays, write_follows}
 
 -- the call was recorded
 pub record Moved (step : Option Step) (m n : Memory) : Type 0 where

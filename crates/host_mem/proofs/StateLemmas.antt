@@ -1,15 +1,18 @@
 -- What a crash may leave of both files and of what was said after a step, against what it might leave before.
-use Rattle.std.proofs.Common.{◌≡◌, ◌⊎◌, ℕ, ◌+◌, ◌<◌, ◌≤◌, Bool, List, [], ◌∷◌, ◌++◌, length, take, arith, refl, sym, ap, subst, ◌∙◌, inl, inr, ⊎_elim}
+use Rattle.std.proofs.Common.{◌≡◌, ◌⊎◌, ℕ, ◌+◌, ◌<◌, ◌≤◌, Bool, List, [], ◌∷◌, ◌++◌, length, take, arith, refl, sym}
+use Rattle.std.proofs.Common.{ap, subst, ◌∙◌, inl, inr, ⊎_elim}
 use Rattle.std.proofs.lemmas.List.{take_all, append-nil}
 use Rattle.host_model.specs.declared.host.FileNo.{FileNo}
 use Rattle.host_model.specs.declared.host.FileNo.TheVariants.{Db, Images}
 use Rattle.host_model.specs.Files.{Contents, file_of}
 use Rattle.host_model.specs.Disk.{Changes, Cut, Elapses, Follows, SaysSome, Stays, Torn, during}
 use Rattle.host_mem.specs.Drive.{Leaves}
-use Rattle.host_mem.specs.History.{LeftBefore, LeftIn, LeftSince, NumberedTo, State, StateLeaves, apply, replayed, shown, start}
+use Rattle.host_mem.specs.History.{LeftBefore, LeftIn, LeftSince, NumberedTo, State, StateLeaves, apply, replayed}
+use Rattle.host_mem.specs.History.{shown, start}
 use Rattle.host_mem.specs.Laws.{AreSound, replayed-AreSound, start-AreSound}
 use Rattle.host_mem.specs.Step.{Step, Write, Cut as cuts, Sync, Say, number_of}
-use Rattle.host_mem.proofs.DriveLemmas.{before_write, before_write-left, before_write-torn, before_cut, before_cut-left, before_cut-cut, settled-only}
+use Rattle.host_mem.proofs.DriveLemmas.{before_write, before_write-left, before_write-torn, before_cut}
+use Rattle.host_mem.proofs.DriveLemmas.{before_cut-left, before_cut-cut, settled-only}
 
 pub other_than_db : (c d : Contents) → c.images ≡ d.images → (f : FileNo) → (f ≡ Db → ⊥) → file_of c f ≡ file_of d f
 other_than_db c d e Db ne = absurd (ne refl)

@@ -1,5 +1,6 @@
 -- One file on a disk: what a read gives, and what a crash may leave of it.
-use Rattle.std.specs.Prelude.{◌≡◌, ℕ, ◌+◌, ◌<◌, ◌≤◌, ◌%◌, ◌==◌, min, max, Bool, false, ◌&&◌, ◌||◌, if◌then◌else◌, List, [], ◌∷◌, ◌++◌, length, take, map, slice_index}
+use Rattle.std.specs.Prelude.{◌≡◌, ℕ, ◌+◌, ◌<◌, ◌≤◌, ◌%◌, ◌==◌, min, max, Bool, false, ◌&&◌, ◌||◌, if◌then◌else◌}
+use Rattle.std.specs.Prelude.{List, [], ◌∷◌, ◌++◌, length, take, map, slice_index}
 use Rattle.std.specs.List.{list_any, range_with_len}
 use Rattle.std.specs.Bool.{nat_le, nat_lt}
 use Rattle.host_model.specs.Disk.{written}

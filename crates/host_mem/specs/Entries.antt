@@ -1,7 +1,8 @@
 -- What the kept entries of a memory host stand for.
 use Rattle.std.specs.Prelude.{◌≡◌, List, map}
 use Rattle.host_mem.specs.declared.step.Entry.{Entry}
-use Rattle.host_mem.specs.declared.step.Entry.TheVariants.{Write as EntryWrite, Cut as EntryCut, Sync as EntrySync, Say as EntrySay}
+use Rattle.host_mem.specs.declared.step.Entry.TheVariants.{Write as EntryWrite, Cut as EntryCut, Sync as EntrySync}
+use Rattle.host_mem.specs.declared.step.Entry.TheVariants.{Say as EntrySay}
 use Rattle.host_mem.specs.Step.{Step, Write, Cut, Sync, Say}
 
 abbrev pub step_of : Entry → Step

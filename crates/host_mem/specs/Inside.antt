@@ -10,7 +10,7 @@ abbrev pub seen : Parts → Memory
 seen a = record {
   first = record { db = first_of a.db; images = first_of a.images; said = first_of a.said };
   log = a.log;
-  failures = record { read = a.read_faults; write = a.write_faults; say = a.say_faults };
+  failures = record { read = a.read_failures; write = a.write_failures; say = a.say_failures };
   reads = a.reads;
 }
 

@@ -3,6 +3,7 @@ pub mod Entries
 pub mod History
 pub mod Inside
 pub mod Laws
+pub mod Listed
 pub mod Log
 pub mod Memory
 pub mod Replay

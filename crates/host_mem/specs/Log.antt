@@ -1,5 +1,6 @@
 -- The calls that a memory host was asked for, and when a call fails.
-use Rattle.std.specs.Prelude.{◌≡◌, ℕ, ◌+◌, ◌-◌, ◌^◌, ◌<◌, ◌≤◌, ◌⊎◌, ◌↔◌, List, [], ◌∷◌, ◌++◌, Option, None, Some, Result, IsErr}
+use Rattle.std.specs.Prelude.{◌≡◌, ℕ, ◌+◌, ◌-◌, ◌^◌, ◌<◌, ◌≤◌, ◌⊎◌, ◌↔◌, List, [], ◌∷◌, ◌++◌, Option, None, Some}
+use Rattle.std.specs.Prelude.{Result, IsErr}
 use Rattle.host_model.specs.Failures.{Rose, counted}
 use Rattle.host_mem.specs.declared.call.Call.{Call}
 use Rattle.host_mem.specs.Step.{Step}

@@ -1,12 +1,13 @@
 -- What a memory host holds, and what its calls leave of it.
-use Rattle.std.specs.Prelude.{◌≡◌, ◌⊎◌, ℕ, ◌-◌, min, Bool, true, false, ◌&&◌, List, [], ◌++◌, length, take, drop, Option, None, Some, Contains, Result, is_ok, if◌then◌else◌}
-use Rattle.std.specs.Option.{option_map}
+use Rattle.std.specs.Prelude.{◌≡◌, ◌⊎◌, ℕ, ◌-◌, min, Bool, true, false, ◌&&◌, List, [], ◌++◌, length, take, drop}
+use Rattle.std.specs.Prelude.{Option, None, Some, Result, is_ok, if◌then◌else◌}
 use Rattle.host_model.specs.declared.host.FileNo.{FileNo}
 use Rattle.host_model.specs.declared.host.FileNo.TheVariants.{Db, Images}
 use Rattle.host_model.specs.Files.{Contents}
 use Rattle.host_model.specs.Failures.{Failures, counted}
 use Rattle.host_mem.specs.declared.call.Call.{Call}
-use Rattle.host_mem.specs.declared.call.Call.TheVariants.{Len, Read, Write as CallWrite, Cut as CallCut, Sync as CallSync, Say as CallSay}
+use Rattle.host_mem.specs.declared.call.Call.TheVariants.{Len, Read, Write as CallWrite, Cut as CallCut}
+use Rattle.host_mem.specs.declared.call.Call.TheVariants.{Sync as CallSync, Say as CallSay}
 use Rattle.host_mem.specs.History.{LeftSince, NumberedTo, State, replayed, shown, start}
 use Rattle.host_mem.specs.Log.{Log, Logged, new_log}
 use Rattle.host_mem.specs.Step.{Step}
@@ -18,12 +19,6 @@ pub record Memory : Type 0 where
   pub log : Log
   pub failures : Failures
   pub reads : ℕ
-
--- a memory host, with the numbers of the calls that are to fail, and after how many calls every one is to fail
-pub record Listed : Type 0 where
-  pub memory : Memory
-  pub failing : List ℕ
-  pub fuse : Option ℕ
 
 -- both files and what was said, with no call made
 abbrev pub memory_of : Contents → Memory
@@ -54,6 +49,16 @@ contents_of memory = shown (state_of memory)
 -- what a crash at a moment or since might have left
 abbrev pub left_since : Memory → ℕ → Contents → Type 0
 left_since memory t c = LeftSince memory.first memory.log.steps memory.log.moment t c
+
+-- what the clauses of a host speak of
+abbrev pub told_by : Memory → Option Contents
+told_by memory = Some (contents_of memory)
+
+abbrev pub moment_of : Memory → ℕ
+moment_of memory = memory.log.moment
+
+abbrev pub failures_of : Memory → Failures
+failures_of memory = memory.failures
 
 -- the counts where such a call failed once more
 abbrev pub failed_by : Call → Failures → Failures
@@ -97,14 +102,6 @@ only_done result step = if is_ok result then Some step else None
 -- what a memory host keeps of its calls: their numbers are those of calls that were made
 abbrev pub IsNumbered : Memory → Type 0
 IsNumbered memory = NumberedTo memory.log.moment memory.log.steps
-
--- the next call is to fail
-abbrev pub IsToFail : Listed → Type 0
-IsToFail host = Contains host.failing (counted host.memory.log.moment) ⊎ (host.fuse ≡ Some 0)
-
--- a fuse after one call more
-abbrev pub burnt : Option ℕ → Option ℕ
-burnt fuse = option_map (λ n. n - 1) fuse
 
 -- a buffer whose front the file's bytes from there on took, as many as both have
 abbrev pub filled : List ℕ → ℕ → List ℕ → List ℕ

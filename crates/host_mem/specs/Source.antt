@@ -1,5 +1,6 @@
 -- What a memory source has left, and what a take gives of it.
-use Rattle.std.specs.Prelude.{◌≡◌, ℕ, ◌+◌, min, ◌↔◌, List, ◌++◌, length, take, drop, Contains, Result, IsErr, MatchResult}
+use Rattle.std.specs.Prelude.{◌≡◌, ℕ, ◌+◌, min, ◌↔◌, List, ◌++◌, length, take, drop, Contains, Result, IsErr}
+use Rattle.std.specs.Prelude.{MatchResult}
 use Rattle.host_model.specs.Failures.{counted}
 
 -- the bytes left, how many a take gives at most, the takes that are to fail, and the counts of takes and of failures

@@ -1,10 +1,13 @@
 ghost use Rattle.std.specs.Prelude.{◌≡◌, ◌≤◌, ◌↔◌, [], length, Contains, None, Some, is_ok, IsTrue, IfOk, OnOk, OnErr};
-ghost use Rattle.host_model.specs.Disk.{Changes, Cut as CutAt, Cuts, Elapses, Follows, SaysSome, Settles, Stays, Torn, Writes, during};
-ghost use Rattle.host_model.specs.Failures.{NeverFell, Rose, counted};
-ghost use Rattle.host_model.specs.Files.{Reads, Says, file_of};
+ghost use Rattle.host_model.specs.Disk.{Changes, Cut as CutAt, Cuts, Follows, SaysSome, Settles, Torn, Writes, during};
+ghost use Rattle.host_model.specs.Failures.{Rose, counted};
+ghost use Rattle.host_model.specs.Files.{AreBytes, Reads, Says, file_of};
+ghost use Rattle.host_model.specs.Frames.{ChangedNothing, WasCalled};
 ghost use Rattle.host_mem.specs.History.{crashed_state};
 ghost use Rattle.host_mem.specs.Laws.{LeftSince-longer, told_is_left, told_said_stays};
-ghost use Rattle.host_mem.specs.Memory.{Called, IsToFail, burnt, contents_of, filled, left_since, memory_of, new_memory, only_done, state_of};
+ghost use Rattle.host_mem.specs.Listed.{IsToFail, burnt, failures_of, left_by, moment_of, told_by};
+ghost use Rattle.host_mem.specs.Memory.{Called, contents_of, filled, left_since, memory_of, new_memory, only_done};
+ghost use Rattle.host_mem.specs.Memory.{state_of};
 ghost use Rattle.host_mem.specs.Step.{Cut, Say, Sync, Write};
 
 use super::call::Call;
@@ -22,7 +25,7 @@ pub struct MemHost {
 }
 
 impl Model for MemHost {
-    ghost use Rattle.host_mem.specs.Memory.{Listed};
+    ghost use Rattle.host_mem.specs.Listed.{Listed};
 
     ghost Value = { Listed };
 
@@ -112,25 +115,23 @@ impl MemHost {
 }
 
 impl Host for MemHost {
-    ghost told = { λ host. Some (contents_of host.memory) };
+    ghost told = { told_by };
 
-    ghost moment = { λ host. host.memory.log.moment };
+    ghost moment = { moment_of };
 
-    ghost failures = { λ host. host.memory.failures };
+    ghost failures = { failures_of };
 
-    ghost left_since = { λ host. left_since host.memory };
+    ghost left_since = { left_by };
 
     fn len(&mut self, file: FileNo) -> Result<u64, HostFailed>
         ensures length { IfOk result (λ n. n ≡ length (file_of (contents_of self.old.memory) file)) }
-        ensures told { Some (contents_of self.new.memory) ≡ Some (contents_of self.old.memory) }
-        ensures crash { Stays (left_since self.old.memory self.old.memory.log.moment) (left_since self.new.memory self.new.memory.log.moment) }
-        ensures time { Elapses self.old.memory.log.moment self.new.memory.log.moment (left_since self.old.memory) (left_since self.new.memory) (left_since self.new.memory self.new.memory.log.moment) }
-        ensures clock { self.new.memory.log.moment ≡ counted self.old.memory.log.moment }
-        ensures failures { NeverFell self.old.memory.failures self.new.memory.failures }
+        ensures bytes { AreBytes (contents_of self.old.memory) }
+        ensures kept { ChangedNothing told_by moment_of failures_of left_by self.old self.new }
         ensures failed { OnErr result (Rose self.old.memory.failures.read self.new.memory.failures.read) }
         ensures failing { self.new.failing ≡ self.old.failing }
         ensures fuse { self.new.fuse ≡ burnt self.old.fuse }
-        ensures called { Called (IsToFail self.old) (Call.Len (counted self.old.memory.log.moment) file) None result self.old.memory self.new.memory }
+        ensures recorded { Called (IsToFail self.old) (Call.Len (counted self.old.memory.log.moment) file)
+            None result self.old.memory self.new.memory }
     {
         let listed = self.begin();
         self.memory.len(file, listed)
@@ -139,17 +140,14 @@ impl Host for MemHost {
     fn read(&mut self, file: FileNo, at: u64, out: &mut [u8]) -> Result<usize, HostFailed>
         ensures count { IfOk result (λ n. n ≤ length out.old) }
         ensures bytes { IfOk result (Reads (file_of (contents_of self.old.memory) file) at out.old out.new) }
-        ensures told { Some (contents_of self.new.memory) ≡ Some (contents_of self.old.memory) }
-        ensures crash { Stays (left_since self.old.memory self.old.memory.log.moment) (left_since self.new.memory self.new.memory.log.moment) }
-        ensures time { Elapses self.old.memory.log.moment self.new.memory.log.moment (left_since self.old.memory) (left_since self.new.memory) (left_since self.new.memory self.new.memory.log.moment) }
-        ensures clock { self.new.memory.log.moment ≡ counted self.old.memory.log.moment }
-        ensures failures { NeverFell self.old.memory.failures self.new.memory.failures }
+        ensures kept { ChangedNothing told_by moment_of failures_of left_by self.old self.new }
         ensures failed { OnErr result (Rose self.old.memory.failures.read self.new.memory.failures.read) }
         ensures failing { self.new.failing ≡ self.old.failing }
         ensures fuse { self.new.fuse ≡ burnt self.old.fuse }
         ensures filled { OnOk result (out.new ≡ filled (file_of (contents_of self.old.memory) file) at out.old) }
         ensures unread { OnErr result (out.new ≡ out.old) }
-        ensures called { Called (IsToFail self.old) (Call.Read (counted self.old.memory.log.moment) file at (length out.old)) None result self.old.memory self.new.memory }
+        ensures recorded { Called (IsToFail self.old) (Call.Read (counted self.old.memory.log.moment) file at (length out.old))
+            None result self.old.memory self.new.memory }
     {
         let listed = self.begin();
         self.memory.read(file, at, out, listed)
@@ -158,14 +156,15 @@ impl Host for MemHost {
     fn write_at(&mut self, file: FileNo, at: u64, bytes: &[u8]) -> Result<(), HostFailed>
         requires { at ≤ length (file_of (contents_of self.old.memory) file) }
         ensures told { Changes file (Writes at bytes.now result) (contents_of self.old.memory) (contents_of self.new.memory) }
-        ensures crash { Follows (Changes file (Torn at (length bytes.now))) (left_since self.old.memory self.old.memory.log.moment) (left_since self.new.memory self.new.memory.log.moment) }
-        ensures time { Elapses self.old.memory.log.moment self.new.memory.log.moment (left_since self.old.memory) (left_since self.new.memory) (left_since self.new.memory self.new.memory.log.moment) }
-        ensures clock { self.new.memory.log.moment ≡ counted self.old.memory.log.moment }
-        ensures failures { NeverFell self.old.memory.failures self.new.memory.failures }
+        ensures crash { Follows (Changes file (Torn at (length bytes.now)))
+            (left_since self.old.memory self.old.memory.log.moment) (left_since self.new.memory self.new.memory.log.moment) }
+        ensures called { WasCalled moment_of failures_of left_by self.old self.new
+            (left_since self.new.memory self.new.memory.log.moment) }
         ensures failed { OnErr result (Rose self.old.memory.failures.write self.new.memory.failures.write) }
         ensures failing { self.new.failing ≡ self.old.failing }
         ensures fuse { self.new.fuse ≡ burnt self.old.fuse }
-        ensures called { Called (IsToFail self.old) (Call.Write (counted self.old.memory.log.moment) file at (length bytes.now)) (Some (Write (counted self.old.memory.log.moment) file at bytes.now (is_ok result))) result self.old.memory self.new.memory }
+        ensures recorded { Called (IsToFail self.old) (Call.Write (counted self.old.memory.log.moment) file at (length bytes.now))
+            (Some (Write (counted self.old.memory.log.moment) file at bytes.now (is_ok result))) result self.old.memory self.new.memory }
     {
         let listed = self.begin();
         self.memory.write_at(file, at, bytes, listed)
@@ -174,30 +173,29 @@ impl Host for MemHost {
     fn cut(&mut self, file: FileNo, len: u64) -> Result<(), HostFailed>
         requires { len ≤ length (file_of (contents_of self.old.memory) file) }
         ensures told { Changes file (Cuts len result) (contents_of self.old.memory) (contents_of self.new.memory) }
-        ensures crash { Follows (Changes file (CutAt len)) (left_since self.old.memory self.old.memory.log.moment) (left_since self.new.memory self.new.memory.log.moment) }
-        ensures time { Elapses self.old.memory.log.moment self.new.memory.log.moment (left_since self.old.memory) (left_since self.new.memory) (left_since self.new.memory self.new.memory.log.moment) }
-        ensures clock { self.new.memory.log.moment ≡ counted self.old.memory.log.moment }
-        ensures failures { NeverFell self.old.memory.failures self.new.memory.failures }
+        ensures crash { Follows (Changes file (CutAt len))
+            (left_since self.old.memory self.old.memory.log.moment) (left_since self.new.memory self.new.memory.log.moment) }
+        ensures called { WasCalled moment_of failures_of left_by self.old self.new
+            (left_since self.new.memory self.new.memory.log.moment) }
         ensures failed { OnErr result (Rose self.old.memory.failures.write self.new.memory.failures.write) }
         ensures failing { self.new.failing ≡ self.old.failing }
         ensures fuse { self.new.fuse ≡ burnt self.old.fuse }
-        ensures called { Called (IsToFail self.old) (Call.Cut (counted self.old.memory.log.moment) file len) (Some (Cut (counted self.old.memory.log.moment) file len (is_ok result))) result self.old.memory self.new.memory }
+        ensures recorded { Called (IsToFail self.old) (Call.Cut (counted self.old.memory.log.moment) file len)
+            (Some (Cut (counted self.old.memory.log.moment) file len (is_ok result))) result self.old.memory self.new.memory }
     {
         let listed = self.begin();
         self.memory.cut(file, len, listed)
     }
 
     fn sync(&mut self, file: FileNo) -> Result<(), HostFailed>
-        ensures settled { OnOk result (Settles file (file_of (contents_of self.old.memory) file) (left_since self.new.memory self.new.memory.log.moment)) }
-        ensures told { Some (contents_of self.new.memory) ≡ Some (contents_of self.old.memory) }
-        ensures crash { Stays (left_since self.old.memory self.old.memory.log.moment) (left_since self.new.memory self.new.memory.log.moment) }
-        ensures time { Elapses self.old.memory.log.moment self.new.memory.log.moment (left_since self.old.memory) (left_since self.new.memory) (left_since self.new.memory self.new.memory.log.moment) }
-        ensures clock { self.new.memory.log.moment ≡ counted self.old.memory.log.moment }
-        ensures failures { NeverFell self.old.memory.failures self.new.memory.failures }
+        ensures settled { OnOk result
+            (Settles file (file_of (contents_of self.old.memory) file) (left_since self.new.memory self.new.memory.log.moment)) }
+        ensures kept { ChangedNothing told_by moment_of failures_of left_by self.old self.new }
         ensures failed { OnErr result (Rose self.old.memory.failures.write self.new.memory.failures.write) }
         ensures failing { self.new.failing ≡ self.old.failing }
         ensures fuse { self.new.fuse ≡ burnt self.old.fuse }
-        ensures called { Called (IsToFail self.old) (Call.Sync (counted self.old.memory.log.moment) file) (only_done result (Sync (counted self.old.memory.log.moment) file)) result self.old.memory self.new.memory }
+        ensures recorded { Called (IsToFail self.old) (Call.Sync (counted self.old.memory.log.moment) file)
+            (only_done result (Sync (counted self.old.memory.log.moment) file)) result self.old.memory self.new.memory }
     {
         let listed = self.begin();
         self.memory.sync(file, listed)
@@ -205,14 +203,15 @@ impl Host for MemHost {
 
     fn say(&mut self, bytes: &[u8]) -> Result<(), HostFailed>
         ensures said { Says bytes.now result (contents_of self.old.memory) (contents_of self.new.memory) }
-        ensures crash { Follows (SaysSome bytes.now) (left_since self.old.memory self.old.memory.log.moment) (left_since self.new.memory self.new.memory.log.moment) }
-        ensures time { Elapses self.old.memory.log.moment self.new.memory.log.moment (left_since self.old.memory) (left_since self.new.memory) (during (SaysSome bytes.now) (left_since self.old.memory self.old.memory.log.moment)) }
-        ensures clock { self.new.memory.log.moment ≡ counted self.old.memory.log.moment }
-        ensures failures { NeverFell self.old.memory.failures self.new.memory.failures }
+        ensures crash { Follows (SaysSome bytes.now)
+            (left_since self.old.memory self.old.memory.log.moment) (left_since self.new.memory self.new.memory.log.moment) }
+        ensures called { WasCalled moment_of failures_of left_by self.old self.new
+            (during (SaysSome bytes.now) (left_since self.old.memory self.old.memory.log.moment)) }
         ensures failed { OnErr result (Rose self.old.memory.failures.say self.new.memory.failures.say) }
         ensures failing { self.new.failing ≡ self.old.failing }
         ensures fuse { self.new.fuse ≡ burnt self.old.fuse }
-        ensures called { Called (IsToFail self.old) (Call.Say (counted self.old.memory.log.moment) (length bytes.now)) (only_done result (Say (counted self.old.memory.log.moment) bytes.now)) result self.old.memory self.new.memory }
+        ensures recorded { Called (IsToFail self.old) (Call.Say (counted self.old.memory.log.moment) (length bytes.now))
+            (only_done result (Say (counted self.old.memory.log.moment) bytes.now)) result self.old.memory self.new.memory }
     {
         let listed = self.begin();
         self.memory.say(bytes, listed)

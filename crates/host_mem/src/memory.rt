@@ -1,7 +1,8 @@
 ghost use Rattle.std.specs.Prelude.{◌≡◌, ◌-◌, ◌≤◌, min, length, None, Some, is_ok, IsTrue, IfOk, OnOk, OnErr};
-ghost use Rattle.host_model.specs.Disk.{Changes, Cut as CutAt, Cuts, Elapses, Follows, SaysSome, Settles, Stays, Torn, Writes, during};
+ghost use Rattle.host_model.specs.Disk.{Changes, Cut as CutAt, Cuts, Elapses, Follows, SaysSome, Settles, Stays};
+ghost use Rattle.host_model.specs.Disk.{Torn, Writes, during};
 ghost use Rattle.host_model.specs.Failures.{NeverFell, counted};
-ghost use Rattle.host_model.specs.Files.{Says, file_of};
+ghost use Rattle.host_model.specs.Files.{AreBytes, Says, file_of};
 
 use super::call::Call;
 use super::log::Log;
@@ -54,9 +55,9 @@ impl Memory {
                 },
                 log: Log::new(alloc),
                 alloc,
-                read_faults: 0,
-                write_faults: 0,
-                say_faults: 0,
+                read_failures: 0,
+                write_failures: 0,
+                say_failures: 0,
                 reads: 0,
             },
         }
@@ -71,6 +72,7 @@ impl Memory {
 
     pub(crate) fn len(&mut self, file: FileNo, listed: bool) -> Result<u64, HostFailed>
         ensures length { IfOk result (λ n. n ≡ length (file_of (contents_of self.old) file)) }
+        ensures bytes { AreBytes (contents_of self.old) }
         ensures told { contents_of self.new ≡ contents_of self.old }
         ensures crash { Stays (left_since self.old self.old.log.moment) (left_since self.new self.new.log.moment) }
         ensures time { Elapses self.old.log.moment self.new.log.moment (left_since self.old) (left_since self.new) (left_since self.new self.new.log.moment) }

@@ -1,6 +1,7 @@
-ghost use Rattle.std.specs.Prelude.{◌≡◌, ◌-◌, ◌≤◌, ◌++◌, min, length, take, drop, None, Some, is_ok, if◌then◌else◌, IsTrue, IfOk, OnOk, OnErr};
+ghost use Rattle.std.specs.Prelude.{◌≡◌, ◌-◌, ◌<◌, ◌≤◌, ◌++◌, min, length, take, drop, All, None, Some, is_ok};
+ghost use Rattle.std.specs.Prelude.{if◌then◌else◌, IsTrue, IfOk, OnOk, OnErr};
 ghost use Rattle.host_model.specs.Failures.{NeverFell, counted};
-ghost use Rattle.host_model.specs.Files.{file_of, saying};
+ghost use Rattle.host_model.specs.Files.{AreBytes, file_of, saying};
 ghost use Rattle.host_model.specs.Disk.{written};
 ghost use Rattle.host_mem.specs.History.{start};
 ghost use Rattle.host_mem.specs.Inside.{held, seen};
@@ -25,19 +26,21 @@ pub(crate) struct Parts {
     pub(crate) said: Stored,
     pub(crate) log: Log,
     pub(crate) alloc: Global,
-    pub(crate) read_faults: u64,
-    pub(crate) write_faults: u64,
-    pub(crate) say_faults: u64,
+    pub(crate) read_failures: u64,
+    pub(crate) write_failures: u64,
+    pub(crate) say_failures: u64,
     pub(crate) reads: u64,
 }
 
 impl Parts {
     pub(crate) fn len(&mut self, file: FileNo, listed: bool) -> Result<u64, HostFailed>
         ensures length { IfOk result (λ n. n ≡ length (file_of (held self.old) file)) }
+        ensures bytes { AreBytes (held self.old) }
         ensures held { held self.new ≡ held self.old }
         ensures failures { NeverFell (seen self.old).failures (seen self.new).failures }
         ensures called { Called (IsTrue listed) (Call.Len (counted self.old.log.moment) file) None result (seen self.old) (seen self.new) }
     {
+        self.hold_bytes();
         let number = self.log.next();
         self.look(Call::Len { number, file }, listed)?;
         Ok(self.bytes(file).len() as u64)
@@ -106,7 +109,7 @@ impl Parts {
             ),
         };
         if result.is_err() {
-            self.write_faults = self.write_faults.saturating_add(1);
+            self.write_failures = self.write_failures.saturating_add(1);
         }
         result
     }
@@ -130,7 +133,7 @@ impl Parts {
             ),
         };
         if result.is_err() {
-            self.write_faults = self.write_faults.saturating_add(1);
+            self.write_failures = self.write_failures.saturating_add(1);
         }
         result
     }
@@ -143,7 +146,7 @@ impl Parts {
     {
         let result = sync(&mut self.log, file, listed);
         if result.is_err() {
-            self.write_faults = self.write_faults.saturating_add(1);
+            self.write_failures = self.write_failures.saturating_add(1);
         }
         result
     }
@@ -156,7 +159,7 @@ impl Parts {
     {
         let result = say(&mut self.said, &mut self.log, self.alloc, bytes, listed);
         if result.is_err() {
-            self.say_faults = self.say_faults.saturating_add(1);
+            self.say_failures = self.say_failures.saturating_add(1);
         }
         result
     }
@@ -172,7 +175,7 @@ impl Parts {
         ensures counts { (seen self.new).failures ≡ (if is_ok result then (seen self.old).failures else failed_by call (seen self.old).failures) }
     {
         if self.log.admit(call).is_err() || listed {
-            self.read_faults = self.read_faults.saturating_add(1);
+            self.read_failures = self.read_failures.saturating_add(1);
             return Err(HostFailed);
         }
         Ok(())
@@ -189,6 +192,14 @@ impl Parts {
         })
     }
 
+    /// Does nothing: what both files hold are bytes.
+    fn hold_bytes(&self)
+        ensures { AreBytes (held self.now) }
+    {
+        are_bytes(self.db.bytes.as_slice());
+        are_bytes(self.images.bytes.as_slice());
+    }
+
     pub(crate) fn bytes(&self, file: FileNo) -> &[u8]
         ensures { result.now ≡ file_of (held self.now) file }
     {
@@ -198,6 +209,11 @@ impl Parts {
         }
     }
 }
+
+/// Does nothing: each item of a slice of bytes is below 256.
+fn are_bytes(bytes: &[u8])
+    ensures { All (λ b. b < 256) bytes.now }
+{}
 
 /// Puts what the file has from `at` on at the front of `out`, and answers how many bytes those are.
 fn fill(file: &[u8], at: u64, out: &mut [u8]) -> usize

@@ -1,6 +1,7 @@
 ghost use Rattle.std.specs.Prelude.{◌≡◌, ◌++◌, length, map, slice_index, IsTrue, if◌then◌else◌, IfOk, OnOk};
 ghost use Rattle.host_model.specs.Disk.{written};
-ghost use Rattle.host_mem.specs.Drive.{crashed, is_covered, is_loose, is_within, scribbled, settled, shortened, synced, wrote};
+ghost use Rattle.host_mem.specs.Drive.{crashed, is_covered, is_loose, is_within, scribbled, settled, shortened};
+ghost use Rattle.host_mem.specs.Drive.{synced, wrote};
 ghost use Rattle.host_mem.specs.Entries.{step_of};
 ghost use Rattle.host_mem.specs.History.{apply, replayed};
 ghost use Rattle.host_mem.specs.Replay.{drive_seen, state_seen};

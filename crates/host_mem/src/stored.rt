@@ -1,4 +1,5 @@
-ghost use Rattle.std.specs.Prelude.{◌≡◌, ◌+◌, ◌≤◌, ◌++◌, length, take, Some, is_ok, if◌then◌else◌, IsSome, IsTrue, IfOk, vec_len};
+ghost use Rattle.std.specs.Prelude.{◌≡◌, ◌+◌, ◌≤◌, ◌++◌, length, take, Some, is_ok, if◌then◌else◌, IsSome, IsTrue};
+ghost use Rattle.std.specs.Prelude.{IfOk, vec_len};
 ghost use Rattle.std.specs.Vec.{vec_capacity};
 ghost use Rattle.host_model.specs.Failures.{counted};
 ghost use Rattle.host_model.specs.Disk.{written};

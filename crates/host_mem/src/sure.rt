@@ -1,9 +1,11 @@
 ghost use Rattle.std.specs.Prelude.{◌≡◌, ◌≤◌, ◌↔◌, length, Contains, None, Some, is_ok, IsTrue, IfOk, OnOk, OnErr};
-ghost use Rattle.host_model.specs.Disk.{Changes, Cut as CutAt, Cuts, Elapses, Follows, SaysSome, Settles, Stays, Torn, Writes, during};
-ghost use Rattle.host_model.specs.Failures.{NeverFell, Rose, counted};
-ghost use Rattle.host_model.specs.Files.{Reads, Says, file_of};
+ghost use Rattle.host_model.specs.Disk.{Changes, Cut as CutAt, Cuts, Follows, SaysSome, Settles, Torn, Writes, during};
+ghost use Rattle.host_model.specs.Failures.{Rose, counted};
+ghost use Rattle.host_model.specs.Files.{AreBytes, Reads, Says, file_of};
+ghost use Rattle.host_model.specs.Frames.{ChangedNothing, WasCalled};
 ghost use Rattle.host_mem.specs.Laws.{LeftSince-longer, told_is_left, told_said_stays};
-ghost use Rattle.host_mem.specs.Memory.{Called, contents_of, filled, left_since, new_memory, only_done};
+ghost use Rattle.host_mem.specs.Memory.{Called, contents_of, failures_of, filled, left_since, moment_of, new_memory};
+ghost use Rattle.host_mem.specs.Memory.{only_done, told_by};
 ghost use Rattle.host_mem.specs.Step.{Cut, Say, Sync, Write};
 
 use super::call::Call;
@@ -68,23 +70,21 @@ impl SureHost {
 }
 
 impl Host for SureHost {
-    ghost told = { λ host. Some (contents_of host) };
+    ghost told = { told_by };
 
-    ghost moment = { λ host. host.log.moment };
+    ghost moment = { moment_of };
 
-    ghost failures = { λ host. host.failures };
+    ghost failures = { failures_of };
 
-    ghost left_since = { λ host. left_since host };
+    ghost left_since = { left_since };
 
     fn len(&mut self, file: FileNo) -> Result<u64, HostFailed>
         ensures length { IfOk result (λ n. n ≡ length (file_of (contents_of self.old) file)) }
-        ensures told { Some (contents_of self.new) ≡ Some (contents_of self.old) }
-        ensures crash { Stays (left_since self.old self.old.log.moment) (left_since self.new self.new.log.moment) }
-        ensures time { Elapses self.old.log.moment self.new.log.moment (left_since self.old) (left_since self.new) (left_since self.new self.new.log.moment) }
-        ensures clock { self.new.log.moment ≡ counted self.old.log.moment }
-        ensures failures { NeverFell self.old.failures self.new.failures }
+        ensures bytes { AreBytes (contents_of self.old) }
+        ensures kept { ChangedNothing told_by moment_of failures_of left_since self.old self.new }
         ensures failed { OnErr result (Rose self.old.failures.read self.new.failures.read) }
-        ensures called { Called (⊥) (Call.Len (counted self.old.log.moment) file) None result self.old self.new }
+        ensures recorded { Called (⊥) (Call.Len (counted self.old.log.moment) file)
+            None result self.old self.new }
     {
         self.memory.len(file, false)
     }
@@ -92,15 +92,12 @@ impl Host for SureHost {
     fn read(&mut self, file: FileNo, at: u64, out: &mut [u8]) -> Result<usize, HostFailed>
         ensures count { IfOk result (λ n. n ≤ length out.old) }
         ensures bytes { IfOk result (Reads (file_of (contents_of self.old) file) at out.old out.new) }
-        ensures told { Some (contents_of self.new) ≡ Some (contents_of self.old) }
-        ensures crash { Stays (left_since self.old self.old.log.moment) (left_since self.new self.new.log.moment) }
-        ensures time { Elapses self.old.log.moment self.new.log.moment (left_since self.old) (left_since self.new) (left_since self.new self.new.log.moment) }
-        ensures clock { self.new.log.moment ≡ counted self.old.log.moment }
-        ensures failures { NeverFell self.old.failures self.new.failures }
+        ensures kept { ChangedNothing told_by moment_of failures_of left_since self.old self.new }
         ensures failed { OnErr result (Rose self.old.failures.read self.new.failures.read) }
         ensures filled { OnOk result (out.new ≡ filled (file_of (contents_of self.old) file) at out.old) }
         ensures unread { OnErr result (out.new ≡ out.old) }
-        ensures called { Called (⊥) (Call.Read (counted self.old.log.moment) file at (length out.old)) None result self.old self.new }
+        ensures recorded { Called (⊥) (Call.Read (counted self.old.log.moment) file at (length out.old))
+            None result self.old self.new }
     {
         self.memory.read(file, at, out, false)
     }
@@ -108,12 +105,13 @@ impl Host for SureHost {
     fn write_at(&mut self, file: FileNo, at: u64, bytes: &[u8]) -> Result<(), HostFailed>
         requires { at ≤ length (file_of (contents_of self.old) file) }
         ensures told { Changes file (Writes at bytes.now result) (contents_of self.old) (contents_of self.new) }
-        ensures crash { Follows (Changes file (Torn at (length bytes.now))) (left_since self.old self.old.log.moment) (left_since self.new self.new.log.moment) }
-        ensures time { Elapses self.old.log.moment self.new.log.moment (left_since self.old) (left_since self.new) (left_since self.new self.new.log.moment) }
-        ensures clock { self.new.log.moment ≡ counted self.old.log.moment }
-        ensures failures { NeverFell self.old.failures self.new.failures }
+        ensures crash { Follows (Changes file (Torn at (length bytes.now)))
+            (left_since self.old self.old.log.moment) (left_since self.new self.new.log.moment) }
+        ensures called { WasCalled moment_of failures_of left_since self.old self.new
+            (left_since self.new self.new.log.moment) }
         ensures failed { OnErr result (Rose self.old.failures.write self.new.failures.write) }
-        ensures called { Called (⊥) (Call.Write (counted self.old.log.moment) file at (length bytes.now)) (Some (Write (counted self.old.log.moment) file at bytes.now (is_ok result))) result self.old self.new }
+        ensures recorded { Called (⊥) (Call.Write (counted self.old.log.moment) file at (length bytes.now))
+            (Some (Write (counted self.old.log.moment) file at bytes.now (is_ok result))) result self.old self.new }
     {
         self.memory.write_at(file, at, bytes, false)
     }
@@ -121,37 +119,37 @@ impl Host for SureHost {
     fn cut(&mut self, file: FileNo, len: u64) -> Result<(), HostFailed>
         requires { len ≤ length (file_of (contents_of self.old) file) }
         ensures told { Changes file (Cuts len result) (contents_of self.old) (contents_of self.new) }
-        ensures crash { Follows (Changes file (CutAt len)) (left_since self.old self.old.log.moment) (left_since self.new self.new.log.moment) }
-        ensures time { Elapses self.old.log.moment self.new.log.moment (left_since self.old) (left_since self.new) (left_since self.new self.new.log.moment) }
-        ensures clock { self.new.log.moment ≡ counted self.old.log.moment }
-        ensures failures { NeverFell self.old.failures self.new.failures }
+        ensures crash { Follows (Changes file (CutAt len))
+            (left_since self.old self.old.log.moment) (left_since self.new self.new.log.moment) }
+        ensures called { WasCalled moment_of failures_of left_since self.old self.new
+            (left_since self.new self.new.log.moment) }
         ensures failed { OnErr result (Rose self.old.failures.write self.new.failures.write) }
-        ensures called { Called (⊥) (Call.Cut (counted self.old.log.moment) file len) (Some (Cut (counted self.old.log.moment) file len (is_ok result))) result self.old self.new }
+        ensures recorded { Called (⊥) (Call.Cut (counted self.old.log.moment) file len)
+            (Some (Cut (counted self.old.log.moment) file len (is_ok result))) result self.old self.new }
     {
         self.memory.cut(file, len, false)
     }
 
     fn sync(&mut self, file: FileNo) -> Result<(), HostFailed>
-        ensures settled { OnOk result (Settles file (file_of (contents_of self.old) file) (left_since self.new self.new.log.moment)) }
-        ensures told { Some (contents_of self.new) ≡ Some (contents_of self.old) }
-        ensures crash { Stays (left_since self.old self.old.log.moment) (left_since self.new self.new.log.moment) }
-        ensures time { Elapses self.old.log.moment self.new.log.moment (left_since self.old) (left_since self.new) (left_since self.new self.new.log.moment) }
-        ensures clock { self.new.log.moment ≡ counted self.old.log.moment }
-        ensures failures { NeverFell self.old.failures self.new.failures }
+        ensures settled { OnOk result
+            (Settles file (file_of (contents_of self.old) file) (left_since self.new self.new.log.moment)) }
+        ensures kept { ChangedNothing told_by moment_of failures_of left_since self.old self.new }
         ensures failed { OnErr result (Rose self.old.failures.write self.new.failures.write) }
-        ensures called { Called (⊥) (Call.Sync (counted self.old.log.moment) file) (only_done result (Sync (counted self.old.log.moment) file)) result self.old self.new }
+        ensures recorded { Called (⊥) (Call.Sync (counted self.old.log.moment) file)
+            (only_done result (Sync (counted self.old.log.moment) file)) result self.old self.new }
     {
         self.memory.sync(file, false)
     }
 
     fn say(&mut self, bytes: &[u8]) -> Result<(), HostFailed>
         ensures said { Says bytes.now result (contents_of self.old) (contents_of self.new) }
-        ensures crash { Follows (SaysSome bytes.now) (left_since self.old self.old.log.moment) (left_since self.new self.new.log.moment) }
-        ensures time { Elapses self.old.log.moment self.new.log.moment (left_since self.old) (left_since self.new) (during (SaysSome bytes.now) (left_since self.old self.old.log.moment)) }
-        ensures clock { self.new.log.moment ≡ counted self.old.log.moment }
-        ensures failures { NeverFell self.old.failures self.new.failures }
+        ensures crash { Follows (SaysSome bytes.now)
+            (left_since self.old self.old.log.moment) (left_since self.new self.new.log.moment) }
+        ensures called { WasCalled moment_of failures_of left_since self.old self.new
+            (during (SaysSome bytes.now) (left_since self.old self.old.log.moment)) }
         ensures failed { OnErr result (Rose self.old.failures.say self.new.failures.say) }
-        ensures called { Called (⊥) (Call.Say (counted self.old.log.moment) (length bytes.now)) (only_done result (Say (counted self.old.log.moment) bytes.now)) result self.old self.new }
+        ensures recorded { Called (⊥) (Call.Say (counted self.old.log.moment) (length bytes.now))
+            (only_done result (Say (counted self.old.log.moment) bytes.now)) result self.old self.new }
     {
         self.memory.say(bytes, false)
     }

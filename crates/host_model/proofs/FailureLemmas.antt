@@ -11,5 +11,6 @@ then-Rose before now later le rose = omega arith
 pub NeverFell-refl : (failures : Failures) → NeverFell failures failures
 NeverFell-refl failures = record { read = omega arith; write = omega arith; say = omega arith }
 
-pub NeverFell-trans : (before now later : Failures) → NeverFell before now → NeverFell now later → NeverFell before later
+pub NeverFell-trans : (before now later : Failures)
+    → NeverFell before now → NeverFell now later → NeverFell before later
 NeverFell-trans before now later first second = record { read = omega arith; write = omega arith; say = omega arith }

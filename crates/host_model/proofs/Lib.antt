@@ -1,3 +1,6 @@
 pub mod FailureLemmas
-pub mod MomentLemmas
+pub mod FileLemmas
 pub mod FrameLemmas
+pub mod MomentLemmas
+pub mod OrderLemmas
+pub mod OutcomeLemmas

@@ -1,5 +1,6 @@
 -- What a crash may leave of a file, step by step, and how upper layers speak of every moment.
-use Rattle.std.specs.Prelude.{◌≡◌, ◌⊎◌, ℕ, ◌+◌, ◌<◌, ◌≤◌, min, max, List, ◌++◌, length, take, drop, slice_index, Option, Some, Result, MatchResult}
+use Rattle.std.specs.Prelude.{◌≡◌, ◌⊎◌, ℕ, ◌+◌, ◌<◌, ◌≤◌, min, max, List, ◌++◌, length, take, drop, slice_index}
+use Rattle.std.specs.Prelude.{Option, Some, Result, MatchResult}
 use Rattle.host_model.specs.declared.host.FileNo.{FileNo}
 use Rattle.host_model.specs.declared.host.FileNo.TheVariants.{Db, Images}
 use Rattle.host_model.specs.Files.{Contents, file_of}
@@ -29,9 +30,11 @@ pub record Changes (file : FileNo) (R : List ℕ → List ℕ → Type 0) (old n
   pub other : (f : FileNo) → (f ≡ file → ⊥) → file_of new f ≡ file_of old f
   pub said : new.said ≡ old.said
 
--- After a write, or a cut, that succeeded the file is as it should be; after one that failed, as a crash might leave it.
+-- After a write, or a cut, that succeeded the file is as it should be; after one that failed, as a crash might leave
+-- it.
 abbrev pub Writes : {T E : Type 0} → ℕ → List ℕ → Result T E → List ℕ → List ℕ → Type 0
-Writes at bytes result old new = MatchResult result (λ _. new ≡ written at bytes old) (λ _. Torn at (length bytes) old new)
+Writes at bytes result old new =
+    MatchResult result (λ _. new ≡ written at bytes old) (λ _. Torn at (length bytes) old new)
 
 abbrev pub Cuts : {T E : Type 0} → ℕ → Result T E → List ℕ → List ℕ → Type 0
 Cuts n result old new = MatchResult result (λ _. new ≡ take n old) (λ _. Cut n old new)

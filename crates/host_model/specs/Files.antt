@@ -1,5 +1,5 @@
 -- The two files and the said bytes of a host, and what its calls do to them.
-use Rattle.std.specs.Prelude.{◌≡◌, ℕ, ◌-◌, min, List, [], ◌++◌, length, take, drop, Result, MatchResult}
+use Rattle.std.specs.Prelude.{◌≡◌, ℕ, ◌-◌, ◌<◌, min, List, [], ◌++◌, length, take, drop, All, Result, MatchResult}
 use Rattle.host_model.specs.declared.host.FileNo.{FileNo}
 use Rattle.host_model.specs.declared.host.FileNo.TheVariants.{Db, Images}
 
@@ -8,6 +8,11 @@ pub record Contents : Type 0 where
   pub db : List ℕ
   pub images : List ℕ
   pub said : List ℕ
+
+-- What both files hold are bytes.
+pub record AreBytes (c : Contents) : Type 0 where
+  pub db : All (λ b. b < 256) c.db
+  pub images : All (λ b. b < 256) c.images
 
 abbrev pub file_of : Contents → FileNo → List ℕ
 file_of c Db = c.db
@@ -25,7 +30,8 @@ saying c bytes = record c { said = c.said ++ bytes }
 
 -- all the bytes were said, or where that failed some of the first
 abbrev pub Says : {T E : Type 0} → List ℕ → Result T E → Contents → Contents → Type 0
-Says bytes result old new = MatchResult result (λ _. new ≡ saying old bytes) (λ _. (n : ℕ) × (new ≡ saying old (take n bytes)))
+Says bytes result old new =
+    MatchResult result (λ _. new ≡ saying old bytes) (λ _. (n : ℕ) × (new ≡ saying old (take n bytes)))
 
 -- a source gave these bytes, which were the first that it had, and 0 says that it had none
 pub record Gives (out : List ℕ) (n : ℕ) (old new : List ℕ) : Type 0 where

@@ -1,9 +1,10 @@
-ghost use Rattle.std.specs.Prelude.{◌≡◌, ◌<◌, ◌≤◌, ℕ, Option, None, Some, length, All, IfOk, OnOk, OnErr, IfSome};
+ghost use Rattle.std.specs.Prelude.{◌≡◌, ◌≤◌, ℕ, Option, None, Some, length, IfOk, OnOk, OnErr, IfSome};
 ghost use Rattle.std.specs.Option.{ForSome};
-ghost use Rattle.host_model.specs.Failures.{Failures, NeverFell, Rose, counted};
+ghost use Rattle.host_model.specs.Failures.{Failures, Rose};
 ghost use Rattle.host_model.specs.Told.{TellsOn};
-ghost use Rattle.host_model.specs.Files.{Contents, Reads, Says, file_of};
-ghost use Rattle.host_model.specs.Disk.{Changes, Cut, Cuts, Elapses, Follows, SaysSome, Settles, Stays, Torn, Writes, during};
+ghost use Rattle.host_model.specs.Files.{AreBytes, Contents, Reads, Says, file_of};
+ghost use Rattle.host_model.specs.Disk.{Changes, Cut, Cuts, Follows, SaysSome, Settles, Torn, Writes, during};
+ghost use Rattle.host_model.specs.Frames.{ChangedNothing, WasCalled};
 
 use thiserror::Error;
 
@@ -45,24 +46,18 @@ pub trait Host: Drop {
     /// The length of a file in bytes. A missing file has none.
     fn len(&mut self, file: FileNo) -> Result<u64, HostFailed>
         ensures length { IfOk result (λ n. IfSome (told self.old) (λ c. n ≡ length (file_of c file))) }
-        ensures bytes { IfSome (told self.old) (λ c. All (λ b. b < 256) c.db × All (λ b. b < 256) c.images) }
-        ensures told { told self.new ≡ told self.old }
-        ensures crash { Stays (left_since self.old (moment self.old)) (left_since self.new (moment self.new)) }
-        ensures time { Elapses (moment self.old) (moment self.new) (left_since self.old) (left_since self.new) (left_since self.new (moment self.new)) }
-        ensures clock { moment self.new ≡ counted (moment self.old) }
-        ensures failures { NeverFell (failures self.old) (failures self.new) }
+        // What is told are bytes.
+        ensures bytes { IfSome (told self.old) AreBytes }
+        ensures kept { ChangedNothing told moment failures left_since self.old self.new }
         ensures failed { OnErr result (Rose (failures self.old).read (failures self.new).read) };
 
     /// Reads into the front of `out` what the file has from `at` on, and answers how many bytes that
     /// were: fewer than `out` takes only where the file ends, and 0 at its end or past it.
     fn read(&mut self, file: FileNo, at: u64, out: &mut [u8]) -> Result<usize, HostFailed>
         ensures count { IfOk result (λ n. n ≤ length out.old) }
-        ensures bytes { IfOk result (λ n. IfSome (told self.old) (λ c. Reads (file_of c file) at out.old out.new n)) }
-        ensures told { told self.new ≡ told self.old }
-        ensures crash { Stays (left_since self.old (moment self.old)) (left_since self.new (moment self.new)) }
-        ensures time { Elapses (moment self.old) (moment self.new) (left_since self.old) (left_since self.new) (left_since self.new (moment self.new)) }
-        ensures clock { moment self.new ≡ counted (moment self.old) }
-        ensures failures { NeverFell (failures self.old) (failures self.new) }
+        ensures bytes { IfOk result
+            (λ n. IfSome (told self.old) (λ c. Reads (file_of c file) at out.old out.new n)) }
+        ensures kept { ChangedNothing told moment failures left_since self.old self.new }
         ensures failed { OnErr result (Rose (failures self.old).read (failures self.new).read) };
 
     /// Writes over what the file has from `at` on, and past its end. Until a sync that succeeds, a crash may leave
@@ -71,10 +66,10 @@ pub trait Host: Drop {
         requires { ForSome (told self.old) (λ c. at ≤ length (file_of c file)) }
         ensures told { TellsOn (told self.old) (told self.new) (Changes file (Writes at bytes.now result)) }
         ensures untold { told self.old ≡ None → told self.new ≡ None }
-        ensures crash { Follows (Changes file (Torn at (length bytes.now))) (left_since self.old (moment self.old)) (left_since self.new (moment self.new)) }
-        ensures time { Elapses (moment self.old) (moment self.new) (left_since self.old) (left_since self.new) (left_since self.new (moment self.new)) }
-        ensures clock { moment self.new ≡ counted (moment self.old) }
-        ensures failures { NeverFell (failures self.old) (failures self.new) }
+        ensures crash { Follows (Changes file (Torn at (length bytes.now)))
+            (left_since self.old (moment self.old)) (left_since self.new (moment self.new)) }
+        ensures called { WasCalled moment failures left_since self.old self.new
+            (left_since self.new (moment self.new)) }
         ensures failed { OnErr result (Rose (failures self.old).write (failures self.new).write) };
 
     /// Cuts the file to its first `len` bytes. Until a sync that succeeds, a crash may leave it longer, with any bytes
@@ -83,32 +78,27 @@ pub trait Host: Drop {
         requires { ForSome (told self.old) (λ c. len ≤ length (file_of c file)) }
         ensures told { TellsOn (told self.old) (told self.new) (Changes file (Cuts len result)) }
         ensures untold { told self.old ≡ None → told self.new ≡ None }
-        ensures crash { Follows (Changes file (Cut len)) (left_since self.old (moment self.old)) (left_since self.new (moment self.new)) }
-        ensures time { Elapses (moment self.old) (moment self.new) (left_since self.old) (left_since self.new) (left_since self.new (moment self.new)) }
-        ensures clock { moment self.new ≡ counted (moment self.old) }
-        ensures failures { NeverFell (failures self.old) (failures self.new) }
+        ensures crash { Follows (Changes file (Cut len))
+            (left_since self.old (moment self.old)) (left_since self.new (moment self.new)) }
+        ensures called { WasCalled moment failures left_since self.old self.new
+            (left_since self.new (moment self.new)) }
         ensures failed { OnErr result (Rose (failures self.old).write (failures self.new).write) };
 
     /// After it a crash leaves of this file what a read gives. Where it fails nothing is known to be stable.
     fn sync(&mut self, file: FileNo) -> Result<(), HostFailed>
         ensures settled { OnOk result (IfSome (told self.old) (λ c.
             Settles file (file_of c file) (left_since self.new (moment self.new)))) }
-        ensures told { told self.new ≡ told self.old }
-        ensures crash { Stays (left_since self.old (moment self.old)) (left_since self.new (moment self.new)) }
-        ensures time { Elapses (moment self.old) (moment self.new) (left_since self.old) (left_since self.new) (left_since self.new (moment self.new)) }
-        ensures clock { moment self.new ≡ counted (moment self.old) }
-        ensures failures { NeverFell (failures self.old) (failures self.new) }
+        ensures kept { ChangedNothing told moment failures left_since self.old self.new }
         ensures failed { OnErr result (Rose (failures self.old).write (failures self.new).write) };
 
     /// Says the bytes, or where it fails some of the first.
     fn say(&mut self, bytes: &[u8]) -> Result<(), HostFailed>
         ensures said { TellsOn (told self.old) (told self.new) (Says bytes.now result) }
         ensures untold { told self.old ≡ None → told self.new ≡ None }
-        ensures crash { Follows (SaysSome bytes.now) (left_since self.old (moment self.old)) (left_since self.new (moment self.new)) }
-        ensures time { Elapses (moment self.old) (moment self.new) (left_since self.old) (left_since self.new)
+        ensures crash { Follows (SaysSome bytes.now)
+            (left_since self.old (moment self.old)) (left_since self.new (moment self.new)) }
+        ensures called { WasCalled moment failures left_since self.old self.new
             (during (SaysSome bytes.now) (left_since self.old (moment self.old))) }
-        ensures clock { moment self.new ≡ counted (moment self.old) }
-        ensures failures { NeverFell (failures self.old) (failures self.new) }
         ensures failed { OnErr result (Rose (failures self.old).say (failures self.new).say) };
 
     /// The moments since a later one are among those since an earlier.
@@ -118,5 +108,6 @@ pub trait Host: Drop {
     ghost now_left: { (host : Self) (c : Contents) → told host ≡ Some c → left_since host (moment host) c };
 
     /// A crash leaves all that was said.
-    ghost said_stays: { (host : Self) (now c : Contents) → told host ≡ Some now → left_since host (moment host) c → c.said ≡ now.said };
+    ghost said_stays: { (host : Self) (now c : Contents) → told host ≡ Some now
+        → left_since host (moment host) c → c.said ≡ now.said };
 }

@@ -3,7 +3,7 @@ ghost use Rattle.std.specs.Option.{ForSome, SomeIff};
 ghost use Rattle.host_model.specs.Failures.{Rose};
 ghost use Rattle.host_model.specs.Frames.{WasRead};
 ghost use Rattle.host_model.specs.Units.{IsUnit, unit_bytes};
-ghost use Rattle.host_model.proofs.FrameLemmas.{WasRead-refl, WasRead-trans};
+ghost use Rattle.host_model.proofs.FrameLemmas.{WasRead-refl, WasRead-then};
 ghost use Rattle.integ.specs.RawFile.{database_of, place};
 
 use host_model::{FileNo, Host, UnitSource, UnitTrouble};
@@ -51,7 +51,7 @@ impl<H: Host> UnitSource for RawFile<H> {
 
     ghost not_read = { WasRead-refl H.told H.failures };
 
-    ghost read_on = { WasRead-trans H.told H.failures };
+    ghost read_on = { WasRead-then H.told H.failures };
 
     fn length(&mut self) -> Result<u64, UnitTrouble> {
         Ok(self.host.len(FileNo::Db)?)

@@ -6,11 +6,12 @@ use Rattle.std.proofs.lemmas.List.{drop_all, drop-drop, length-map, map-append}
 use Rattle.gds_block.specs.Block.{used_of}
 use Rattle.gds_block.specs.Record as block
 use Rattle.gds_block.specs.Record.{Record, AreRecords, bytes_left, is_well_sized}
-use Rattle.gds_block.proofs.RecordLaws.{Fits-from_well_sized}
+use Rattle.gds_block.proofs.RecordLemmas.{Fits-from_well_sized}
 use Rattle.gds_law.specs.Block.{fault_at, kinds_from, children_from, size_kinds}
 use Rattle.gds_law.specs.BlockReading.{BlockReading, PlacedRecord, size_of, is_last, key_of}
-use Rattle.gds_law.specs.Record.{kinds_of, is_ended, child_of}
-use Rattle.gds_law.specs.Fault.{Told}
+use Rattle.gds_law.specs.Record.{kinds_of, is_ended, children_of_record}
+use Rattle.gds_law.specs.Visit.{Child}
+use Rattle.gds_law.specs.declared.fault.Fault.{Fault}
 use Rattle.gds_law.specs.declared.kind.FaultKind.{FaultKind}
 use Rattle.integ_block.specs.Entry.{Leaves, IsNext, children_at}
 use Rattle.integ_block.specs.BlockReading.{faults_at}
@@ -65,6 +66,10 @@ pulled : {A : Type 0} (t : Bool) (xs : List A) → (if t then [] else xs ++ []) 
 pulled true xs = refl
 pulled false xs = refl
 
+both : {A : Type 0} (t : Bool) (xs ys : List A) → (if t then [] else xs ++ ys) ≡ (if t then [] else xs) ++ (if t then [] else ys)
+both true xs ys = refl
+both false xs ys = refl
+
 module _ (b : BlockReading) (bytes : List ℕ) (at : ℕ) (previous : List ℕ) (r : Record) (rs : List Record) where
   abbrev pub here : PlacedRecord
   here = record { previous = previous; record_ = r }
@@ -75,7 +80,7 @@ module _ (b : BlockReading) (bytes : List ℕ) (at : ℕ) (previous : List ℕ) 
 
   module _ (path : List (ℕ × ℕ)) where
     -- with what there may be behind the record
-    abbrev pub behind : List Told
+    abbrev pub behind : List Fault
     behind = map (fault_at b path) (if is_ended b here then [] else kinds_from b bytes (r.offset + size_of here) (key_of b here) rs)
 
     pub told-behind : map (fault_at b path) (kinds_from b bytes at previous (r ∷ rs)) ≡ faults_at b path r.offset (kinds_of b here) ++ behind
@@ -91,6 +96,13 @@ module _ (b : BlockReading) (bytes : List ℕ) (at : ℕ) (previous : List ℕ) 
         ∙ ap (λ n. kinds_from b bytes n (key_of b here) rs) (sym e)
         ∙ ap (λ k. kinds_from b bytes end k rs) next.whole)
         ∙ map-append (fault_at b path) (map (λ kind. (r.offset, kind)) (kinds_of b here)) (kinds_from b bytes end key rs)
+
+  -- with what there may be behind it
+  abbrev pub more_children : List Child
+  more_children = if is_ended b here then [] else children_from b (key_of b here) rs
+
+  pub children-behind : children_from b previous (r ∷ rs) ≡ children_at b here ++ more_children
+  children-behind = both (is_ended b here) (children_of_record b here) (children_from b (key_of b here) rs)
 
   pub children-next : (key : List ℕ) → IsNext b here key → children_from b previous (r ∷ rs) ≡ children_at b here ++ children_from b key rs
   children-next key next =
@@ -123,6 +135,6 @@ module _ (b : BlockReading) (bytes : List ℕ) (at : ℕ) (previous : List ℕ) 
         elim leaves [
           | inl h ↦ cond-true (is_ended b here) _ _ h ∙ ap (λ xs. xs ++ []) (sym (cond-true (is_ended b here) _ _ h))
           | inr last ↦
-              ap (λ ys. if is_ended b here then [] else child_of b here ++ children_from b (key_of b here) ys) (no-more b.level bytes at r rs are b.used used (ends last))
-              ∙ pulled (is_ended b here) (child_of b here)
+              ap (λ ys. if is_ended b here then [] else children_of_record b here ++ children_from b (key_of b here) ys) (no-more b.level bytes at r rs are b.used used (ends last))
+              ∙ pulled (is_ended b here) (children_of_record b here)
         ]

@@ -11,7 +11,7 @@ use Rattle.gds_law.specs.Block.{head_holds, kinds_of_head, kinds_of_block, kinds
 use Rattle.gds_law.specs.Kinds.{ends, head_kinds}
 use Rattle.gds_law.specs.BlockReading.{BlockReading, reading_of}
 use Rattle.gds_law.specs.Visit.{Visit}
-use Rattle.gds_law.specs.Fault.{Told}
+use Rattle.gds_law.specs.declared.fault.Fault.{Fault}
 use Rattle.gds_law.specs.declared.kind.FaultKind.{FaultKind}
 use Rattle.gds_law.specs.declared.kind.FaultKind.TheVariants.{BadVersion, TransactionTooNew, UsedTooSmall, UsedTooLarge, RootAtLevelZero, WrongLevel, EmptyBlock}
 use Rattle.integ_block.specs.BlockReading.{faults_at}
@@ -100,6 +100,6 @@ module _ (h : Header) (path : List (ℕ × ℕ)) (v : Visit) (bytes : List ℕ) 
     children-all = sym (cond-false (list_any ends head) [] (children_from b [] (records_of bytes)) go)
 
   -- In either case the faults begin with those of the head.
-  pub faults-begin : (t : Bool) → list_any ends head ≡ t → (rest : List Told) × (faults_at b path 0 head ++ rest ≡ faults_of_block h path v bytes)
+  pub faults-begin : (t : Bool) → list_any ends head ≡ t → (rest : List Fault) × (faults_at b path 0 head ++ rest ≡ faults_of_block h path v bytes)
   faults-begin true end = ([], append-nil (faults_at b path 0 head) ∙ faults-head end)
   faults-begin false go = (map (fault_at b path) behind, faults-all go)

@@ -32,6 +32,23 @@ module _ {K : Type 0} (ends test : K → Bool) (kinds : List K) (i : ℕ) (d : K
   pub left-last : test (get_or kinds i d) ≡ true → ends (get_or kinds i d) ≡ true → kept ends test (drop i kinds) ≡ get_or kinds i d ∷ []
   left-last t e = ap (kept ends test) (drop-here kinds i d h) ∙ kept-last ends test (get_or kinds i d) (drop (i + 1) kinds) t e
 
+  left-by : (t : Bool) → test (get_or kinds i d) ≡ true → ends (get_or kinds i d) ≡ t
+      → (rest : List K) × (kept ends test (drop i kinds) ≡ get_or kinds i d ∷ rest)
+  left-by true t e = ([], left-last t e)
+  left-by false t e = (kept ends test (drop (i + 1) kinds), left-yes t e)
+
+  -- One that stands is told first, whether it ends the reading or not.
+  pub left-first : test (get_or kinds i d) ≡ true → (rest : List K) × (kept ends test (drop i kinds) ≡ get_or kinds i d ∷ rest)
+  left-first t = left-by (ends (get_or kinds i d)) t refl
+
+-- the same where none ends the reading
+module _ {K : Type 0} (test : K → Bool) (kinds : List K) (i : ℕ) (d : K) (h : i < length kinds) where
+  pub found-yes : test (get_or kinds i d) ≡ true → filter test (drop i kinds) ≡ get_or kinds i d ∷ filter test (drop (i + 1) kinds)
+  found-yes t = ap (filter test) (drop-here kinds i d h) ∙ rw t refl
+
+  pub found-not : test (get_or kinds i d) ≡ false → filter test (drop i kinds) ≡ filter test (drop (i + 1) kinds)
+  found-not t = ap (filter test) (drop-here kinds i d h) ∙ rw t refl
+
 -- ---- tables of which no kind ends the reading
 
 pub or_none : (x y : Bool) → (x || y) ≡ false → (x ≡ false) × (y ≡ false)

@@ -1,4 +1,3 @@
-pub mod Reached
 pub mod KindLaws
 pub mod EntryLaws
 pub mod KeyEnds
@@ -7,3 +6,4 @@ pub mod ReadLaws
 pub mod BlockLaws
 pub mod HeadLaws
 pub mod KeyLemmas
+pub mod ErrorLemmas

@@ -5,7 +5,7 @@ use Rattle.std.proofs.lemmas.Bool.{eq-eqb, cond-true, cond-false}
 use Rattle.arrayvec.specs.ArrayVec.{ArrayVec}
 use Rattle.gds_law.specs.Kinds.{ends}
 use Rattle.gds_law.specs.BlockReading.{BlockReading, PlacedRecord}
-use Rattle.gds_law.specs.Record.{holds, last_holds, kinds_of, is_ended, child_of}
+use Rattle.gds_law.specs.Record.{holds, last_holds, kinds_of, is_ended, children_of_record}
 use Rattle.gds_law.specs.declared.kind.FaultKind.{FaultKind}
 use Rattle.gds_law.specs.declared.kind.FaultKind.TheVariants.{StarSize}
 use Rattle.integ_block.specs.Entry.{IsRead, Leaves, children_at}
@@ -26,7 +26,7 @@ module _ (b : BlockReading) (s : PlacedRecord) where
   Leaves-read None rest fault k = inr k.last
   Leaves-read (Some key) rest fault k = record { goes_on = goes_on-read (Some key) rest fault k; whole = k.whole; fronts = k.fronts }
 
-  pub children-read : (key : Option (ArrayVec ℕ)) (rest : List ℕ) (fault : Option FaultKind) → IsRead b s key rest fault → child_of b s ≡ children_at b s
+  pub children-read : (key : Option (ArrayVec ℕ)) (rest : List ℕ) (fault : Option FaultKind) → IsRead b s key rest fault → children_of_record b s ≡ children_at b s
   children-read key rest fault k = sym (cond-false (is_ended b s) _ _ (goes_on-read key rest fault k))
 
   module _ (kind : FaultKind) (only : kinds_of b s ≡ kind ∷ []) (e : ends kind ≡ true) where

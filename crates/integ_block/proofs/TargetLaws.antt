@@ -2,7 +2,7 @@
 use Rattle.std.proofs.Common.{ℕ, ◌≡◌, ◌-◌, ◌<◌, arith, Bool, true, false, refl, List, Option, Some, sym, ◌∙◌, ap}
 use Rattle.std.specs.Prelude.{◌&&◌}
 use Rattle.std.proofs.lemmas.Bool.{eq-eqb, ltb-true, ne_eqb, cond-true, cond-false}
-use Rattle.gds_law.specs.Key.{name_part}
+use Rattle.m_key.specs.KeyParts.{name_part}
 use Rattle.gds_law.specs.BlockReading.{BlockReading, PlacedRecord, is_last, key_of}
 use Rattle.gds_law.specs.Record.{target_of, low_of, high_of}
 use Rattle.gds_law.specs.Visit.{Visit, Child, global_root}

@@ -4,12 +4,12 @@ use Rattle.arrayvec.specs.ArrayVec.{ArrayVec}
 use Rattle.gds_block.specs.View.{record_of}
 use Rattle.m_key.specs.KeyEnd.{HasOpenFronts}
 use Rattle.gds_law.specs.BlockReading as law
-use Rattle.gds_law.specs.Record.{keyed_holds, kinds_of, is_ended, child_of}
+use Rattle.gds_law.specs.Record.{keyed_holds, kinds_of, is_ended, children_of_record}
 use Rattle.gds_law.specs.Visit.{Child}
 use Rattle.gds_law.specs.Key.{key_fault}
 use Rattle.gds_law.specs.declared.kind.FaultKind.{FaultKind}
 use Rattle.gds_law.specs.declared.kind.FaultKind.TheVariants.{FirstCount, CountTooLarge, KeyTooLong, KeyWithoutEnd}
-use Rattle.gds_law.specs.Fault.{Told}
+use Rattle.gds_law.specs.declared.fault.Fault.{Fault}
 use Rattle.integ_block.specs.BlockReading.{reading, faults_at}
 use Rattle.integ_block.specs.declared.record.Record.{Record}
 use Rattle.integ_block.specs.declared.entry.Entry.{Entry}
@@ -62,7 +62,7 @@ pub record IsKeyPart (b : law.BlockReading) (s : law.PlacedRecord) (n : ℕ) : T
 
 -- the children of a record alone
 abbrev pub children_at : law.BlockReading → law.PlacedRecord → List Child
-children_at b s = if is_ended b s then [] else child_of b s
+children_at b s = if is_ended b s then [] else children_of_record b s
 
 -- The reading goes on behind a record with this key.
 pub record IsNext (b : law.BlockReading) (s : law.PlacedRecord) (key : List ℕ) : Type 0 where
@@ -79,7 +79,7 @@ Leaves b s (Some key) = IsNext b s key.items
 abbrev pub kinds_here : Record → List FaultKind
 kinds_here r = kinds_of (reading r.reading) (seen r)
 
-abbrev pub faults_here : Record → List Told
+abbrev pub faults_here : Record → List Fault
 faults_here r = faults_at (reading r.reading) r.reading.at.now.path r.view.offset (kinds_here r)
 
 abbrev pub children_here : Record → List Child

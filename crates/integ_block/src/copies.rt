@@ -1,24 +1,15 @@
-ghost use Rattle.std.specs.Prelude.{◌≡◌, ◌≤◌, length, option_map};
-ghost use Rattle.gds_law.specs.Fault.{role_of};
+ghost use Rattle.std.specs.Prelude.{◌≡◌, option_map};
+ghost use Rattle.gds_law.specs.Visit.{role_of};
 
 use gds_law::Role;
-use m_key::join_key;
-use m_key::Key;
-
-/// The key with these bytes.
-pub(crate) fn key_of(bytes: &[u8]) -> Key
-    requires { length bytes.now ≤ 255 }
-    ensures { result.items ≡ bytes.now }
-{
-    join_key(bytes, &[])
-}
+use m_key::{Key, key_from};
 
 /// The same bound.
 pub(crate) fn bound_of(bound: &Option<Key>) -> Option<Key>
     ensures { option_map (λ key. key.items) result ≡ option_map (λ key. key.items) bound.now }
 {
     match bound {
-        Some(key) => Some(key_of(key.as_slice())),
+        Some(key) => Some(key_from(key.as_slice())),
         None => None,
     }
 }
@@ -29,6 +20,6 @@ pub(crate) fn role_of(role: &Role) -> Role
 {
     match role {
         Role::Directory => Role::Directory,
-        Role::Global(name) => Role::Global(key_of(name.as_slice())),
+        Role::Global(name) => Role::Global(key_from(name.as_slice())),
     }
 }

@@ -1,21 +1,19 @@
-ghost use Rattle.std.specs.Prelude.{◌≡◌, ◌≤◌, ◌-◌, ℕ, if◌then◌else◌, ◌++◌, map, filter, length, take, Some, IfOk, OnOk, OnErr, IsErrOf};
+ghost use Rattle.std.specs.Prelude.{◌≡◌, ◌≤◌, if◌then◌else◌, map, filter, length, IfOk};
 ghost use Rattle.std.specs.Option.{option_to_list};
-ghost use Rattle.host_model.specs.Failures.{Rose};
 ghost use Rattle.gds_law.specs.BlockReading.{is_last, pointer_of};
-ghost use Rattle.gds_law.specs.Record.{child_of, holds, is_kind, keyed_holds, last_holds, target_of};
+ghost use Rattle.gds_law.specs.Record.{children_of_record, holds, is_kind, keyed_holds, last_holds, target_of};
+ghost use Rattle.gds_law.specs.Sink.{Grew, WasTold};
 ghost use Rattle.integ_block.specs.BlockReading.{reading, faults_at};
 ghost use Rattle.integ_block.specs.Entry.{children_here, faults_here, kinds_here, seen, IsEntry, IsKeyed, LeavesHere};
-ghost use Rattle.integ_block.specs.Child.{seen_child};
+ghost use Rattle.integ_block.specs.Child.{child_of};
 
+use crate::Child;
 use crate::compare::is_below;
-use crate::copies::{bound_of, key_of};
-use crate::key::{has_subscripts, name_part};
+use crate::copies::bound_of;
 use crate::record::Record;
-use crate::{Child, IntegError};
 use gds_block::pointer_of;
-use gds_law::{FaultKind, FaultSink};
-use m_key::shared_len;
-use m_key::Key;
+use gds_law::{FaultKind, FaultSink, SinkTrouble};
+use m_key::{Key, has_subscripts, key_from, name_part, shared_len};
 
 /// The kinds that are asked of a record that doesn't end the reading of its block, in their order.
 const ENTRY_KINDS: [FaultKind; 17] = [
@@ -64,19 +62,16 @@ impl Entry<'_> {
         self,
         sink: &mut F,
         children: &mut Vec<Child>,
-    ) -> Result<Step, IntegError>
+    ) -> Result<Step, SinkTrouble>
         requires entry { IsEntry self }
         requires short { length self.record.previous.now ≤ 255 }
-        ensures ok { OnOk result (F.listed sink.new ≡ F.listed sink.old ++ faults_here self.entry.record) }
+        ensures told { WasTold F.listed F.failures sink.old sink.new (faults_here self.entry.record)
+            result SinkTrouble.Failed }
         ensures count { IfOk result (λ step. step.count ≡ length (kinds_here self.entry.record)) }
         ensures few { IfOk result (λ step. step.count ≤ 17) }
-        ensures children { OnOk result
-            (map seen_child children.new.items ≡ map seen_child children.old.items ++ children_here self.entry.record) }
+        ensures children { Grew (map child_of children.old.items) (map child_of children.new.items)
+            (children_here self.entry.record) result }
         ensures leaves { IfOk result (λ step. LeavesHere self.entry.record step.key) }
-        ensures err { OnErr result ((n : ℕ) × (F.listed sink.new ≡ F.listed sink.old ++ take n (faults_here self.entry.record))) }
-        ensures err_children { OnErr result (map seen_child children.new.items ≡ map seen_child children.old.items) }
-        ensures failures { F.failures sink.old ≤ F.failures sink.new }
-        ensures say_fault { IsErrOf result IntegError.SayFault → Rose (F.failures sink.old) (F.failures sink.new) }
     {
         let count = self.tell(&ENTRY_KINDS, sink)?;
         if let Some(child) = self.child() {
@@ -89,19 +84,14 @@ impl Entry<'_> {
     }
 
     /// Tells those of the kinds that stand of the record, and answers how many they are.
-    fn tell<F: FaultSink>(&self, kinds: &[FaultKind], sink: &mut F) -> Result<u64, IntegError>
+    fn tell<F: FaultSink>(&self, kinds: &[FaultKind], sink: &mut F) -> Result<u64, SinkTrouble>
         requires { IsEntry self.now }
-        ensures ok { let found = filter (holds (reading self.now.record.reading) (seen self.now.record)) kinds.now in
-            OnOk result (F.listed sink.new ≡ F.listed sink.old ++ faults_at (reading self.now.record.reading)
-            self.now.record.reading.at.now.path self.now.record.view.offset found) }
+        ensures told { let found = filter (holds (reading self.now.record.reading) (seen self.now.record)) kinds.now in
+            WasTold F.listed F.failures sink.old sink.new (faults_at (reading self.now.record.reading)
+            self.now.record.reading.at.now.path self.now.record.view.offset found) result SinkTrouble.Failed }
         ensures count { let found = filter (holds (reading self.now.record.reading) (seen self.now.record)) kinds.now in
             IfOk result (λ count. count ≡ length found) }
         ensures few { IfOk result (λ count. count ≤ length kinds.now) }
-        ensures err { let found = filter (holds (reading self.now.record.reading) (seen self.now.record)) kinds.now in
-            OnErr result ((n : ℕ) × (F.listed sink.new ≡ F.listed sink.old ++ take n (faults_at
-            (reading self.now.record.reading) self.now.record.reading.at.now.path self.now.record.view.offset found))) }
-        ensures failures { F.failures sink.old ≤ F.failures sink.new }
-        ensures say_fault { IsErrOf result IntegError.SayFault → Rose (F.failures sink.old) (F.failures sink.new) }
     {
         let mut count = 0;
         for kind in kinds {
@@ -187,8 +177,8 @@ impl Entry<'_> {
     fn child(&self) -> Option<Child>
         requires entry { IsEntry self.now }
         requires short { length self.now.record.previous.now ≤ 255 }
-        ensures { map seen_child (option_to_list result)
-            ≡ child_of (reading self.now.record.reading) (seen self.now.record) }
+        ensures { map child_of (option_to_list result)
+            ≡ children_of_record (reading self.now.record.reading) (seen self.now.record) }
     {
         let pointer = self.pointer()?;
         if self.record.reading.is_sound(pointer) {
@@ -201,17 +191,17 @@ impl Entry<'_> {
     fn child_at(&self, block: u32) -> Child
         requires entry { IsEntry self.now }
         requires short { length self.now.record.previous.now ≤ 255 }
-        ensures { seen_child result ≡ record {
+        ensures { child_of result ≡ record {
           offset = self.now.record.view.offset;
           visit = target_of (reading self.now.record.reading) (seen self.now.record) block;
         } }
     {
         match &self.key {
             Some(key) if self.record.reading.level == 0 => self.record.root(block, key.as_slice()),
-            Some(key) => self.record.below(block, Some(key_of(key.as_slice()))),
+            Some(key) => self.record.below(block, Some(key_from(key.as_slice()))),
             None => self
                 .record
-                .below(block, bound_of(&self.record.reading.at.high)),
+                .below(block, bound_of(&self.record.reading.at.visit.high)),
         }
     }
 }

@@ -1,15 +1,14 @@
-ghost use Rattle.std.specs.Prelude.{◌≡◌, ◌≤◌, ℕ, ◌++◌, length, filter, take, IfOk, OnOk, OnErr, IsErrOf};
+ghost use Rattle.std.specs.Prelude.{◌≡◌, ◌≤◌, length, filter, IfOk};
 ghost use Rattle.std.specs.List.{list_any};
-ghost use Rattle.host_model.specs.Failures.{Rose};
 ghost use Rattle.gds_header.specs.Kinds.{through_first};
 ghost use Rattle.gds_law.specs.Block.{head_holds, is_wrong_level, may_be_empty};
 ghost use Rattle.gds_law.specs.Kinds.{ends};
+ghost use Rattle.gds_law.specs.Sink.{WasTold};
 ghost use Rattle.integ_block.specs.BlockReading.{reading, faults_at};
 
-use crate::IntegError;
 use crate::reading::BlockReading;
 use gds_block::{u16_at, u64_at};
-use gds_law::{FaultKind, FaultSink};
+use gds_law::{FaultKind, FaultSink, SinkTrouble};
 
 /// The kinds that are asked of a block's head, in their order.
 pub(crate) const HEAD_KINDS: [FaultKind; 7] = [
@@ -36,21 +35,16 @@ impl BlockReading<'_> {
         bytes: &[u8],
         kinds: &[FaultKind],
         sink: &mut F,
-    ) -> Result<HeadTold, IntegError>
+    ) -> Result<HeadTold, SinkTrouble>
         requires { 16 ≤ length bytes.now }
-        ensures ok { let found = through_first ends (filter (head_holds (reading self.now) bytes.now) kinds.now) in
-            OnOk result (F.listed sink.new
-            ≡ F.listed sink.old ++ faults_at (reading self.now) self.now.at.now.path 0 found) }
+        ensures told { let found = through_first ends (filter (head_holds (reading self.now) bytes.now) kinds.now) in
+            WasTold F.listed F.failures sink.old sink.new (faults_at (reading self.now) self.now.at.now.path 0 found)
+            result SinkTrouble.Failed }
         ensures count { let found = through_first ends (filter (head_holds (reading self.now) bytes.now) kinds.now) in
             IfOk result (λ told. told.count ≡ length found) }
         ensures is_end { let found = through_first ends (filter (head_holds (reading self.now) bytes.now) kinds.now) in
             IfOk result (λ told. told.is_end ≡ list_any ends found) }
         ensures few { IfOk result (λ told. told.count ≤ length kinds.now) }
-        ensures err { let found = through_first ends (filter (head_holds (reading self.now) bytes.now) kinds.now) in
-            OnErr result ((n : ℕ) × (F.listed sink.new
-            ≡ F.listed sink.old ++ take n (faults_at (reading self.now) self.now.at.now.path 0 found))) }
-        ensures failures { F.failures sink.old ≤ F.failures sink.new }
-        ensures say_fault { IsErrOf result IntegError.SayFault → Rose (F.failures sink.old) (F.failures sink.new) }
     {
         let mut count = 0;
         for kind in kinds {
@@ -81,7 +75,7 @@ impl BlockReading<'_> {
             FaultKind::TransactionTooNew => self.header.tn <= u64_at(bytes, 8),
             FaultKind::UsedTooSmall => self.used < 16,
             FaultKind::UsedTooLarge => self.used > self.header.block_size,
-            FaultKind::RootAtLevelZero => self.at.level.is_none() && self.level == 0,
+            FaultKind::RootAtLevelZero => self.at.visit.level.is_none() && self.level == 0,
             FaultKind::WrongLevel => self.is_wrong_level(),
             FaultKind::EmptyBlock => self.used == 16 && !self.may_be_empty(),
             _ => false,
@@ -92,7 +86,7 @@ impl BlockReading<'_> {
     fn is_wrong_level(&self) -> bool
         ensures { result ≡ is_wrong_level (reading self.now).visit.level self.now.level }
     {
-        match self.at.level {
+        match self.at.visit.level {
             None => self.level > 7,
             Some(due) => self.level != due,
         }
@@ -102,6 +96,9 @@ impl BlockReading<'_> {
     fn may_be_empty(&self) -> bool
         ensures { result ≡ may_be_empty (reading self.now) }
     {
-        self.level == 0 && self.is_directory() && self.at.low.is_none() && self.at.high.is_none()
+        self.level == 0
+            && self.is_directory()
+            && self.at.visit.low.is_none()
+            && self.at.visit.high.is_none()
     }
 }

@@ -1,11 +1,12 @@
 //! INTEG of one block: the faults of a block that a path leads to, in their order, and its children.
 #![tactic(auto)]
 
-ghost use Rattle.std.specs.Prelude.{◌≡◌, ◌≤◌, ℕ, ◌++◌, length, map, take, IfOk, OnOk, OnErr, IsErrOf};
-ghost use Rattle.host_model.specs.Failures.{Rose};
+ghost use Rattle.std.specs.Prelude.{◌≡◌, ◌⊎◌, length, map, IfOk, IfErr};
 ghost use Rattle.gds_header.specs.Kinds.{IsWithinLimits};
 ghost use Rattle.gds_law.specs.Block.{faults_of_block, children_of};
-ghost use Rattle.integ_block.specs.Child.{visit_of, seen_child};
+ghost use Rattle.gds_law.specs.Sink.{Grew, WasTold};
+ghost use Rattle.gds_law.specs.Visit.{visit_of};
+ghost use Rattle.integ_block.specs.Child.{child_of};
 
 mod at;
 mod block;
@@ -38,21 +39,13 @@ pub fn block_faults<F: FaultSink>(
 ) -> Result<u64, IntegError>
     requires limits { IsWithinLimits header.now }
     requires whole { length bytes.now ≡ header.now.block_size }
-    ensures told { OnOk result
-        (F.listed sink.new ≡ F.listed sink.old ++ faults_of_block header.now at.now.path (visit_of at.now) bytes.now) }
-    ensures count { IfOk result
-        (λ n. n ≡ length (faults_of_block header.now at.now.path (visit_of at.now) bytes.now)) }
-    ensures children { OnOk result
-        (map seen_child children.new.items
-        ≡ map seen_child children.old.items ++ children_of header.now (visit_of at.now) bytes.now) }
-    ensures err_told { OnErr result ((n : ℕ)
-        × (F.listed sink.new
-        ≡ F.listed sink.old ++ take n (faults_of_block header.now at.now.path (visit_of at.now) bytes.now))) }
-    ensures err_children { OnErr result ((n : ℕ)
-        × (map seen_child children.new.items
-        ≡ map seen_child children.old.items ++ take n (children_of header.now (visit_of at.now) bytes.now))) }
-    ensures failures { F.failures sink.old ≤ F.failures sink.new }
-    ensures say_fault { IsErrOf result IntegError.SayFault → Rose (F.failures sink.old) (F.failures sink.new) }
+    ensures told { let v = visit_of at.now.visit in WasTold F.listed F.failures sink.old sink.new
+        (faults_of_block header.now at.now.path v bytes.now) result IntegError.SayFault }
+    ensures count { let v = visit_of at.now.visit in
+        IfOk result (λ n. n ≡ length (faults_of_block header.now at.now.path v bytes.now)) }
+    ensures children { Grew (map child_of children.old.items) (map child_of children.new.items)
+        (children_of header.now (visit_of at.now.visit) bytes.now) result }
+    ensures refused { IfErr result (λ error. (error ≡ IntegError.Memory) ⊎ (error ≡ IntegError.SayFault)) }
 {
     let reading = BlockReading::of(bytes, at, header);
     let head = reading.tell_head(bytes, &HEAD_KINDS, sink)?;

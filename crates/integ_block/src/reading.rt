@@ -1,16 +1,17 @@
-ghost use Rattle.std.specs.Prelude.{◌≡◌, ◌≤◌, ◌∷◌, [], ◌++◌, OnOk, OnErr, IsErrOf, length};
+ghost use Rattle.std.specs.Prelude.{◌≡◌, ◌≤◌, ◌∷◌, [], length};
 ghost use Rattle.host_model.specs.Failures.{Rose};
 ghost use Rattle.gds_law.specs.Block.{fault_at};
 ghost use Rattle.gds_law.specs.BlockReading.{points, reading_of};
 ghost use Rattle.gds_law.specs.Record.{is_above_bound, is_below_bound, is_directory, is_other_global, is_sound};
-ghost use Rattle.integ_block.specs.Child.{visit_of};
+ghost use Rattle.gds_law.specs.Visit.{visit_of};
+ghost use Rattle.gds_law.specs.Sink.{WasTold};
 ghost use Rattle.integ_block.specs.BlockReading.{reading};
 
+use crate::At;
 use crate::compare::is_below;
-use crate::{At, IntegError};
 use gds_block::u32_at;
 use gds_header::Header;
-use gds_law::{Fault, FaultKind, FaultSink, Role};
+use gds_law::{Fault, FaultKind, FaultSink, Role, SinkTrouble};
 
 /// A block as it is read: the file's header, where the block stands, its level byte and its used count.
 #[derive(Clone, Copy)]
@@ -25,7 +26,7 @@ impl<'a> BlockReading<'a> {
     /// The reading of a block with these bytes.
     pub(crate) fn of(bytes: &[u8], at: &'a At, header: &'a Header) -> BlockReading<'a>
         requires { 16 ≤ length bytes.now }
-        ensures reading { reading result ≡ reading_of header.now (visit_of at.now) bytes.now }
+        ensures reading { reading result ≡ reading_of header.now (visit_of at.now.visit) bytes.now }
         ensures at { result.at.now ≡ at.now }
     {
         BlockReading {
@@ -42,36 +43,31 @@ impl<'a> BlockReading<'a> {
         offset: u32,
         kind: FaultKind,
         sink: &mut F,
-    ) -> Result<(), IntegError>
-        ensures ok { OnOk result
-            (F.listed sink.new ≡ F.listed sink.old ++ fault_at (reading self.now) self.now.at.now.path (offset, kind) ∷ []) }
-        ensures err { OnErr result (F.listed sink.new ≡ F.listed sink.old) }
-        ensures failures { F.failures sink.old ≤ F.failures sink.new }
-        ensures say_fault { IsErrOf result IntegError.SayFault → Rose (F.failures sink.old) (F.failures sink.new) }
+    ) -> Result<(), SinkTrouble>
+        ensures { let due = fault_at (reading self.now) self.now.at.now.path (offset, kind) ∷ [] in
+            WasTold F.listed F.failures sink.old sink.new due result SinkTrouble.Failed }
     {
-        let fault = Fault {
+        sink.fault(&Fault {
             kind,
-            block: self.at.block,
+            block: self.at.visit.block,
             offset,
             level: self.level,
             path: self.at.path.copied(),
-        };
-        sink.fault(&fault)?;
-        Ok(())
+        })
     }
 
     /// Whether the block is one of the directory's.
     pub(crate) fn is_directory(&self) -> bool
         ensures { result ≡ is_directory (reading self.now).visit.role }
     {
-        matches!(self.at.role, Role::Directory)
+        matches!(self.at.visit.role, Role::Directory)
     }
 
     /// Whether the block belongs to a global of another name.
     pub(crate) fn is_other_global(&self, name: &[u8]) -> bool
         ensures { result ≡ is_other_global (reading self.now).visit.role name.now }
     {
-        match &self.at.role {
+        match &self.at.visit.role {
             Role::Directory => false,
             Role::Global(own) => own.as_slice() != name,
         }
@@ -81,7 +77,7 @@ impl<'a> BlockReading<'a> {
     pub(crate) fn is_above_bound(&self, key: &[u8]) -> bool
         ensures { result ≡ is_above_bound (reading self.now).visit.high key.now }
     {
-        match &self.at.high {
+        match &self.at.visit.high {
             Some(bound) => !is_below(key, bound.as_slice()),
             None => false,
         }
@@ -91,7 +87,7 @@ impl<'a> BlockReading<'a> {
     pub(crate) fn is_below_bound(&self, key: &[u8]) -> bool
         ensures { result ≡ is_below_bound self.now.level (reading self.now).visit.low key.now }
     {
-        match &self.at.low {
+        match &self.at.visit.low {
             Some(bound) => {
                 is_below(key, bound.as_slice()) || self.level > 0 && key == bound.as_slice()
             }

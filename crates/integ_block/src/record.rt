@@ -1,24 +1,23 @@
-ghost use Rattle.std.specs.Prelude.{◌≡◌, ◌+◌, ◌-◌, ◌<◌, ◌≤◌, ◌^◌, true, false, ℕ, [], ◌∷◌, ◌++◌, length, map, take, option_map, IfOk, IfErr, OnOk, OnErr, IsErrOf};
-ghost use Rattle.host_model.specs.Failures.{Rose};
-ghost use Rattle.gds_law.specs.Key.{name_part};
+ghost use Rattle.std.specs.Prelude.{◌≡◌, ◌+◌, ◌-◌, ◌<◌, ◌≤◌, ◌^◌, true, false, [], ◌∷◌, length, map, option_map, IfOk, IfErr};
+ghost use Rattle.m_key.specs.KeyParts.{name_part};
 ghost use Rattle.gds_law.specs.Kinds.{ends};
 ghost use Rattle.gds_law.specs.BlockReading.{is_last, is_first};
 ghost use Rattle.gds_law.specs.Record.{low_of};
+ghost use Rattle.gds_law.specs.Sink.{Grew, WasTold};
 ghost use Rattle.gds_law.specs.Visit.{global_root};
 ghost use Rattle.m_key.specs.KeyEnd.{HasOpenFronts};
 ghost use Rattle.integ_block.specs.BlockReading.{reading};
 ghost use Rattle.integ_block.specs.Entry.{children_here, faults_here, kinds_here, seen, IsEntry, IsCount, IsKeyPart, LeavesHere};
-ghost use Rattle.integ_block.specs.Child.{seen_child};
+ghost use Rattle.integ_block.specs.Child.{child_of};
 
-use crate::copies::{bound_of, key_of, role_of};
+use crate::Child;
+use crate::copies::{bound_of, role_of};
 use crate::entry::{Entry, Step};
-use crate::key::{key_fault, name_part};
+use crate::key::key_fault;
 use crate::reading::BlockReading;
-use crate::{Child, IntegError};
 use gds_block::RecordView;
-use gds_law::{FaultKind, FaultSink, Role};
-use m_key::{end_in, ends_in_zero, join_key};
-use m_key::Key;
+use gds_law::{FaultKind, FaultSink, Role, SinkTrouble, Visit};
+use m_key::{Key, end_in, ends_in_zero, join_key, key_from, name_part};
 
 /// Where the first record of a block stands.
 pub(crate) const FIRST: u32 = 16;
@@ -37,21 +36,17 @@ impl<'a> Record<'a> {
         self,
         sink: &mut F,
         children: &mut Vec<Child>,
-    ) -> Result<Step, IntegError>
+    ) -> Result<Step, SinkTrouble>
         requires small { self.view.offset + 4 + length self.view.body.now < 2 ^ 32 }
         requires key_max { self.reading.header.now.key_max ≤ 255 }
         requires fronts { HasOpenFronts self.previous.now }
         requires short { length self.previous.now ≤ 255 }
-        ensures ok { OnOk result (F.listed sink.new ≡ F.listed sink.old ++ faults_here self.entry) }
+        ensures told { WasTold F.listed F.failures sink.old sink.new (faults_here self.entry) result SinkTrouble.Failed }
         ensures count { IfOk result (λ step. step.count ≡ length (kinds_here self.entry)) }
         ensures few { IfOk result (λ step. step.count ≤ 17) }
-        ensures children { OnOk result
-            (map seen_child children.new.items ≡ map seen_child children.old.items ++ children_here self.entry) }
+        ensures children { Grew (map child_of children.old.items) (map child_of children.new.items)
+            (children_here self.entry) result }
         ensures leaves { IfOk result (λ step. LeavesHere self.entry step.key) }
-        ensures err { OnErr result ((n : ℕ) × (F.listed sink.new ≡ F.listed sink.old ++ take n (faults_here self.entry))) }
-        ensures err_children { OnErr result (map seen_child children.new.items ≡ map seen_child children.old.items) }
-        ensures failures { F.failures sink.old ≤ F.failures sink.new }
-        ensures say_fault { IsErrOf result IntegError.SayFault → Rose (F.failures sink.old) (F.failures sink.new) }
     {
         match self.read() {
             Ok(entry) => entry.tell_all(sink, children),
@@ -176,18 +171,20 @@ impl<'a> Record<'a> {
     /// A child that is the root of the global with this key's name.
     pub(crate) fn root(&self, block: u32, key: &[u8]) -> Child
         requires { length key.now ≤ 255 }
-        ensures { seen_child result ≡ record {
+        ensures { child_of result ≡ record {
           offset = self.now.view.offset;
           visit = global_root block (name_part key.now);
         } }
     {
         Child {
             offset: self.view.offset,
-            block,
-            role: Role::Global(key_of(name_part(key))),
-            level: None,
-            low: None,
-            high: None,
+            visit: Visit {
+                block,
+                role: Role::Global(key_from(name_part(key))),
+                level: None,
+                low: None,
+                high: None,
+            },
         }
     }
 
@@ -195,7 +192,7 @@ impl<'a> Record<'a> {
     pub(crate) fn below(&self, block: u32, high: Option<Key>) -> Child
         requires level { 0 < self.now.reading.level }
         requires short { length self.now.previous.now ≤ 255 }
-        ensures { seen_child result ≡ record {
+        ensures { child_of result ≡ record {
           offset = self.now.view.offset;
           visit = record {
             block = block;
@@ -208,11 +205,13 @@ impl<'a> Record<'a> {
     {
         Child {
             offset: self.view.offset,
-            block,
-            role: role_of(&self.reading.at.role),
-            level: Some(self.reading.level - 1),
-            low: self.low(),
-            high,
+            visit: Visit {
+                block,
+                role: role_of(&self.reading.at.visit.role),
+                level: Some(self.reading.level - 1),
+                low: self.low(),
+                high,
+            },
         }
     }
 
@@ -222,9 +221,9 @@ impl<'a> Record<'a> {
         ensures { option_map (λ key. key.items) result ≡ low_of (reading self.now.reading) (seen self.now) }
     {
         if self.is_first() {
-            bound_of(&self.reading.at.low)
+            bound_of(&self.reading.at.visit.low)
         } else {
-            Some(key_of(self.previous))
+            Some(key_from(self.previous))
         }
     }
 }

@@ -1,14 +1,12 @@
 ghost use Rattle.std.specs.Prelude.{◌≡◌};
 ghost use Rattle.gds_header.specs.Kinds.{IsWithinLimits};
-ghost use Rattle.gds_law.specs.Fault.{told_of};
 
 mod rows;
 
 use super::*;
-use crate::copies::key_of;
 use gds_block::write_head;
-use gds_law::{Fault, Path, Role, SinkTrouble};
-use m_key::Key;
+use gds_law::{Fault, Path, Role, SinkTrouble, Visit};
+use m_key::{Key, key_from};
 use rows::{NONE, ROWS};
 use std::alloc::Global;
 use std::test::Fail;
@@ -22,10 +20,7 @@ struct Kept {
 }
 
 impl FaultSink for Kept {
-    ghost use Rattle.std.specs.Prelude.{map};
-    ghost use Rattle.gds_law.specs.Fault.{told_of};
-
-    ghost listed = { λ kept. map told_of kept.faults.items };
+    ghost listed = { λ kept. kept.faults.items };
 
     ghost failures = { λ kept. kept.failures };
 
@@ -42,7 +37,7 @@ impl FaultSink for Kept {
 }
 
 fn copied(fault: &Fault) -> Fault
-    ensures { told_of result ≡ told_of fault.now }
+    ensures { result ≡ fault.now }
 {
     Fault {
         kind: fault.kind,
@@ -94,7 +89,7 @@ enum Place {
 
 /// The key of a node of `^A` with a number of one digit.
 fn node(digit: u8) -> Key {
-    key_of(&[b'A', 0, 0xBF, digit, 0, 0])
+    key_from(&[b'A', 0, 0xBF, digit, 0, 0])
 }
 
 fn at(place: Place) -> At {
@@ -105,14 +100,16 @@ fn at(place: Place) -> At {
     };
     At {
         path: Path::new(),
-        block: 7,
-        role: match place {
-            Place::Names => Role::Directory,
-            _ => Role::Global(key_of(b"A")),
+        visit: Visit {
+            block: 7,
+            role: match place {
+                Place::Names => Role::Directory,
+                _ => Role::Global(key_from(b"A")),
+            },
+            level,
+            low,
+            high,
         },
-        level,
-        low,
-        high,
     }
 }
 
@@ -152,11 +149,13 @@ fn tells_each_kind(rt: HostRuntime) -> Result<(), Fail> {
 fn inner(offset: u32, block: u32, low: u8, high: u8) -> Child {
     Child {
         offset,
-        block,
-        role: Role::Global(key_of(b"A")),
-        level: Some(0),
-        low: Some(node(low)),
-        high: Some(node(high)),
+        visit: Visit {
+            block,
+            role: Role::Global(key_from(b"A")),
+            level: Some(0),
+            low: Some(node(low)),
+            high: Some(node(high)),
+        },
     }
 }
 
@@ -183,11 +182,13 @@ fn appends_children(rt: HostRuntime) -> Result<(), Fail> {
     assert_eq!(rt; sink.faults.len(), 1);
     let root = Child {
         offset: 27,
-        block: 3,
-        role: Role::Global(key_of(b"B")),
-        level: None,
-        low: None,
-        high: None,
+        visit: Visit {
+            block: 3,
+            role: Role::Global(key_from(b"B")),
+            level: None,
+            low: None,
+            high: None,
+        },
     };
     let wanted = [inner(16, 4, 0x11, 0x21), inner(30, 5, 0x21, 0x31), root];
     assert_eq!(rt; children.as_slice(), wanted.as_slice());

@@ -14,13 +14,13 @@ data Escaped (b : ℕ) : Type 0 where
   one : b ≡ 1 → escaped b ≡ 1 ∷ 2 ∷ [] → Escaped b
   more : 2 ≤ b → escaped b ≡ b ∷ [] → Escaped b
 
-escaped-more : (b : ℕ) → 2 ≤ b → escaped b ≡ b ∷ []
-escaped-more b h = grind (arith, nat_tests)
+pub escaped-plain : (b : ℕ) → 1 < b → escaped b ≡ b ∷ []
+escaped-plain b h = grind (arith, nat_tests)
 
 cases : (b : ℕ) → (b ≡ 0) ⊎ ((b ≡ 1) ⊎ (2 ≤ b)) → Escaped b
 cases b (inl e) = none e (ap escaped e)
 cases b (inr (inl e)) = one e (ap escaped e)
-cases b (inr (inr h)) = more h (escaped-more b h)
+cases b (inr (inr h)) = more h (escaped-plain b (omega arith))
 
 three_ways : (b : ℕ) → (b ≡ 0) ⊎ ((b ≡ 1) ⊎ (2 ≤ b))
 three_ways zero = inl refl

@@ -7,3 +7,5 @@ pub mod ReadingLemmas
 pub mod PlaceLemmas
 pub mod CollationLemmas
 pub mod KeyEndLemmas
+pub mod KeyPartLemmas
+pub mod UnescapeLemmas

@@ -1,7 +1,6 @@
 -- What stands at the front of a key's bytes is known from them.
-use Rattle.std.proofs.Common.{◌≡◌, ℕ, zero, suc, ◌+◌, ◌<◌, ◌≤◌, List, [], ◌∷◌, ◌++◌, length, take, drop, map, refl, sym, ap, ap₂, subst, ◌∙◌, arith, flat_map, append_assoc, All, length-append, take-append-drop, Option, None, Some, IfNone}
+use Rattle.std.proofs.Common.{◌≡◌, ℕ, ◌+◌, ◌<◌, ◌≤◌, List, [], ◌∷◌, ◌++◌, length, drop, map, refl, sym, ap, ap₂, subst, ◌∙◌, arith, flat_map, append_assoc, All, length-append, Option, None, Some, IfNone}
 use Rattle.std.specs.Prelude.{slice_index}
-use Rattle.std.proofs.lemmas.List.{get_or_at, drop_more}
 use Rattle.std.proofs.lemmas.List.Elements.{recursion_from_All}
 use Rattle.std.proofs.lemmas.List.Concat.{flat_map-append}
 use Rattle.m_number.specs.Numeral.{Numeral, IsNumeral}
@@ -31,20 +30,12 @@ not_escaped done rest t some none e = by_more (undone done t rest e)
     by_more ([], f) = let h : 0 ≡ length rest = ap length f in absurd (omega arith)
     by_more (m ∷ ms, f) = none m (flat_map escaped ms) f
 
--- the parts of a list round its first 0
-pub round_zero : (xs : List ℕ) (i : ℕ) → i < length xs → slice_index xs i ≡ 0 → xs ≡ take i xs ++ 0 ∷ drop (i + 1) xs
-round_zero xs i h z = sym (take-append-drop i xs) ∙ ap (λ l. take i xs ++ l) (drop_more xs i 0 h ∙ ap (λ b. b ∷ drop (i + 1) xs) z)
+no_zero : (xs : List ℕ) → All (λ b. 0 < b) xs → NoZero xs
+no_zero xs f = recursion_from_All (λ b. 0 < b) xs f
 
-pub NoZero-front : (xs : List ℕ) (i : ℕ) → i ≤ length xs → ((k : ℕ) → k < i → 0 < slice_index xs k) → NoZero (take i xs)
-NoZero-front xs zero h f = tt
-NoZero-front [] (suc i) h f = tt
-NoZero-front (x ∷ xs) (suc i) h f = (f 0 (omega arith), NoZero-front xs i (omega arith) (λ k l. f (suc k) (omega arith)))
-
-pub has_zero : (xs ys rest : List ℕ) → xs ++ 0 ∷ ys ≡ rest → ((k : ℕ) → k < length rest → 0 < slice_index rest k) → ⊥
-has_zero xs ys rest e f =
-    let z : slice_index rest (length xs) ≡ 0 = ap (λ l. slice_index l (length xs)) (sym e) ∙ get_or_at xs 0 ys 0 (length xs) refl in
-    let l : length rest ≡ length xs + suc (length ys) = ap length (sym e) ∙ length-append xs (0 ∷ ys) in
-    absurd (omega (arith, f (length xs) (omega arith)))
+pub has_zero : (xs ys : List ℕ) → NoZero (xs ++ 0 ∷ ys) → ⊥
+has_zero [] ys h = omega (arith, h.0)
+has_zero (x ∷ xs) ys h = has_zero xs ys h.1
 
 -- what is left of subscripts, some of which were read
 pub record Left (done ss : List NodeSubscript) (rest : List ℕ) : Type 0 where
@@ -70,17 +61,6 @@ pub left : (items : List Subscript) (ss : List NodeSubscript) (rest bytes : List
 left items ss rest bytes read q e =
     left_of (map node_subscript_of items) ss rest (Right-read items) (recursion_from_All IsSubscript ss q) (e ∙ sym read)
 
--- no further subscript begins with 0
-first_left : (more : List NodeSubscript) (rest : List ℕ) → Right more → flat_map ended more ++ 0 ∷ [] ≡ rest → (rest ≡ 0 ∷ [] → ⊥) → slice_index rest 0 ≡ 0 → ⊥
-first_left [] rest p e other z = other (sym e)
-first_left (m ∷ ms) rest p e other z =
-    let b = keys.begun numbers m p.0 in
-    let f : b.first ≡ slice_index rest 0 = ap (λ l. slice_index (l ++ 0 ∷ (flat_map ended ms ++ 0 ∷ [])) 0) (sym b.is) ∙ ap (λ l. slice_index l 0) (sym (keys.ended-more m ms (0 ∷ [])) ∙ e) in
-    absurd (omega (arith, b.above, f))
-
-pub none_at_zero : (done ss : List NodeSubscript) (rest : List ℕ) → Left done ss rest → (rest ≡ 0 ∷ [] → ⊥) → slice_index rest 0 ≡ 0 → ⊥
-none_at_zero done ss rest l other z = first_left l.more rest l.right l.bytes other z
-
 -- a 32nd
 pub none_past_31 : (done ss : List NodeSubscript) (rest : List ℕ) → Left done ss rest → (rest ≡ 0 ∷ [] → ⊥) → length done ≡ 31 → length ss ≤ 31 → ⊥
 none_past_31 done ss rest l other full few = past l.more l.bytes (ap length l.all ∙ length-append done l.more)
@@ -90,25 +70,25 @@ none_past_31 done ss rest l other full few = past l.more l.bytes (ap length l.al
     past (m ∷ ms) e g = absurd (omega arith)
 
 -- the bytes up to the first 0 are no subscript's
-pub none_read : (done ss : List NodeSubscript) (rest : List ℕ) (i : ℕ) → Left done ss rest → (rest ≡ 0 ∷ [] → ⊥) → i < length rest → slice_index rest i ≡ 0 → ((k : ℕ) → k < i → 0 < slice_index rest k) → ((s : NodeSubscript) → IsSubscript s → subscript_bytes s ≡ take i rest → ⊥) → ⊥
-none_read done ss rest i l other low z f none = read_by l.more l.right l.bytes
+pub none_read : (done ss : List NodeSubscript) (rest part more : List ℕ) → Left done ss rest → (rest ≡ 0 ∷ [] → ⊥) → part ++ 0 ∷ more ≡ rest → All (λ b. 0 < b) part → ((s : NodeSubscript) → IsSubscript s → subscript_bytes s ≡ part → ⊥) → ⊥
+none_read done ss rest part more l other split f none = read_by l.more l.right l.bytes
   where
-    read_by : (more : List NodeSubscript) → Right more → flat_map ended more ++ 0 ∷ [] ≡ rest → ⊥
+    read_by : (left : List NodeSubscript) → Right left → flat_map ended left ++ 0 ∷ [] ≡ rest → ⊥
     read_by [] p e = other (sym e)
     read_by (m ∷ ms) p e =
-        none m p.0 (split-ended (subscript_bytes m) (take i rest) (flat_map ended ms ++ 0 ∷ []) (drop (i + 1) rest) (keys.NoZero-subscript numbers m p.0) (NoZero-front rest i (omega arith) f)
-        (sym (keys.ended-more m ms (0 ∷ [])) ∙ e ∙ round_zero rest i low z)).0
+        none m p.0 (split-ended (subscript_bytes m) part (flat_map ended ms ++ 0 ∷ []) more (keys.NoZero-subscript numbers m p.0) (no_zero part f)
+        (sym (keys.ended-more m ms (0 ∷ [])) ∙ e ∙ sym split)).0
 
 -- no byte 0 is left
-pub none_ended : (done ss : List NodeSubscript) (rest : List ℕ) → Left done ss rest → ((k : ℕ) → k < length rest → 0 < slice_index rest k) → ⊥
-none_ended done ss rest l f = has_zero (flat_map ended l.more) [] rest l.bytes f
+pub none_ended : (done ss : List NodeSubscript) (rest : List ℕ) → Left done ss rest → All (λ b. 0 < b) rest → ⊥
+none_ended done ss rest l f = has_zero (flat_map ended l.more) [] (subst NoZero (sym l.bytes) (no_zero rest f))
 
 -- one subscript more was read
-pub read_more : (done : List NodeSubscript) (s : NodeSubscript) (rest bytes : List ℕ) (i : ℕ) → flat_map ended done ++ rest ≡ bytes → i < length rest → slice_index rest i ≡ 0 → subscript_bytes s ≡ take i rest → flat_map ended (done ++ s ∷ []) ++ drop (i + 1) rest ≡ bytes
-read_more done s rest bytes i e low z f =
-    ap (λ l. l ++ drop (i + 1) rest) (flat_map-append ended done (s ∷ []))
-    ∙ append_assoc (flat_map ended done) (flat_map ended (s ∷ [])) (drop (i + 1) rest)
-    ∙ ap (λ l. flat_map ended done ++ l) (keys.ended-more s [] (drop (i + 1) rest) ∙ ap (λ l. l ++ 0 ∷ drop (i + 1) rest) f ∙ sym (round_zero rest i low z))
+pub read_more : (done : List NodeSubscript) (s : NodeSubscript) (rest bytes part more : List ℕ) → flat_map ended done ++ rest ≡ bytes → part ++ 0 ∷ more ≡ rest → subscript_bytes s ≡ part → flat_map ended (done ++ s ∷ []) ++ more ≡ bytes
+read_more done s rest bytes part more e split f =
+    ap (λ l. l ++ more) (flat_map-append ended done (s ∷ []))
+    ∙ append_assoc (flat_map ended done) (flat_map ended (s ∷ [])) more
+    ∙ ap (λ l. flat_map ended done ++ l) (keys.ended-more s [] more ∙ ap (λ l. l ++ 0 ∷ more) f ∙ split)
     ∙ e
 
 -- a text that is no string was escaped from nothing else
@@ -129,18 +109,18 @@ none_weaker None A B f h = f h
 none_weaker (Some x) A B f h = h
 
 -- the name stands up to the first 0
-pub name_front : (n : Node) (key : List ℕ) (i : ℕ) → IsNode n → key_bytes n ≡ key → i < length key → slice_index key i ≡ 0 → ((k : ℕ) → k < i → 0 < slice_index key k) → (n.name ≡ take i key) × (flat_map ended n.subscripts ++ 0 ∷ [] ≡ drop (i + 1) key)
-name_front n key i p e h z f =
-    split-ended n.name (take i key) (flat_map ended n.subscripts ++ 0 ∷ []) (drop (i + 1) key) (keys.NoZero-name numbers n p) (NoZero-front key i (omega arith) f)
-    (sym (keys.key-is n) ∙ e ∙ round_zero key i h z)
+pub name_front : (n : Node) (key front more : List ℕ) → IsNode n → key_bytes n ≡ key → front ++ 0 ∷ more ≡ key → All (λ b. 0 < b) front → (n.name ≡ front) × (flat_map ended n.subscripts ++ 0 ∷ [] ≡ more)
+name_front n key front more p e split f =
+    split-ended n.name front (flat_map ended n.subscripts ++ 0 ∷ []) more (keys.NoZero-name numbers n p) (no_zero front f)
+    (sym (keys.key-is n) ∙ e ∙ sym split)
 
 -- each key has a byte 0
-pub key_has_zero : (n : Node) (key : List ℕ) → key_bytes n ≡ key → ((k : ℕ) → k < length key → 0 < slice_index key k) → ⊥
-key_has_zero n key e f = has_zero (lead_bytes n) [] key e f
+pub key_has_zero : (n : Node) (key : List ℕ) → key_bytes n ≡ key → All (λ b. 0 < b) key → ⊥
+key_has_zero n key e f = has_zero (lead_bytes n) [] (subst NoZero (sym e) (no_zero key f))
 
 -- a key is made of its parts
-pub key_made : (name : List ℕ) (ss : List NodeSubscript) (key : List ℕ) (i : ℕ) → i < length key → slice_index key i ≡ 0 → name ≡ take i key → flat_map ended ss ++ 0 ∷ [] ≡ drop (i + 1) key → key_bytes (record { name = name; subscripts = ss }) ≡ key
-key_made name ss key i h z e f =
+pub key_made : (name front : List ℕ) (ss : List NodeSubscript) (key more : List ℕ) → front ++ 0 ∷ more ≡ key → name ≡ front → flat_map ended ss ++ 0 ∷ [] ≡ more → key_bytes (record { name = name; subscripts = ss }) ≡ key
+key_made name front ss key more split e f =
     keys.key-is (record { name = name; subscripts = ss })
     ∙ ap₂ (λ l m. l ++ 0 ∷ m) e f
-    ∙ sym (round_zero key i h z)
+    ∙ split

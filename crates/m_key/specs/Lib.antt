@@ -5,6 +5,7 @@ pub use Rattle.m_number.specs.Order
 pub mod Node
 pub mod Key
 pub mod KeyEnd
+pub mod KeyParts
 pub mod Collation
 pub mod Globals
 pub mod Reference

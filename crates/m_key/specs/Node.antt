@@ -1,5 +1,5 @@
 -- What a reference names: a node, by the name of its global and its subscripts.
-use Rattle.std.specs.Prelude.{◌≡◌, ℕ, ◌<◌, ◌≤◌, Bool, false, ◌&&◌, ◌||◌, ◌==◌, List, [], ◌∷◌, length, All, IsTrue}
+use Rattle.std.specs.Prelude.{◌≡◌, ℕ, ◌<◌, ◌≤◌, Bool, false, ◌&&◌, ◌||◌, ◌==◌, nat_le, List, [], ◌∷◌, length, All, IsTrue}
 use Rattle.std.specs.Char.{is_ascii_alphabetic, is_ascii_alphanumeric}
 use Rattle.std.specs.List.{list_all}
 use Rattle.m_number.specs.Numeral.{Numeral, IsNumeral}
@@ -18,6 +18,10 @@ pub record Node : Type 0 where
 abbrev pub is_word : List ℕ → Bool
 is_word [] = false
 is_word (b ∷ bs) = (b == 37 || is_ascii_alphabetic b) && list_all is_ascii_alphanumeric bs
+
+-- the same as IsName, as a test
+abbrev pub is_name : List ℕ → Bool
+is_name bytes = is_word bytes && nat_le (length bytes) 31
 
 pub record IsName (bytes : List ℕ) : Type 0 where
   pub word : IsTrue (is_word bytes)

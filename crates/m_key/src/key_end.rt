@@ -39,6 +39,14 @@ pub fn join_key(front: &[u8], end: &[u8]) -> Key
     key
 }
 
+/// The key with these bytes, of which there are 255 at most.
+pub fn key_from(bytes: &[u8]) -> Key
+    requires { length bytes.now ≤ 255 }
+    ensures { result.items ≡ bytes.now }
+{
+    join_key(bytes, &[])
+}
+
 fn append(key: &mut Key, bytes: &[u8])
     requires { array_vec_len key.old + length bytes.now ≤ 255 }
     ensures { key.new.items ≡ key.old.items ++ bytes.now }

@@ -1,7 +1,7 @@
 ghost use Rattle.std.specs.Prelude.{◌≡◌, ◌==◌, ◌||◌, ◌↔◌, IsSome, IfSome};
 ghost use Rattle.std.specs.Char.{is_ascii_alphabetic, is_ascii_alphanumeric};
 ghost use Rattle.std.specs.List.{list_all};
-ghost use Rattle.m_key.specs.Node.{IsName, is_word};
+ghost use Rattle.m_key.specs.Node.{IsName, is_word, is_name};
 
 use arrayvec::ArrayVec;
 
@@ -27,12 +27,19 @@ impl Name {
         ensures value { IfSome result (λ n. name_bytes n ≡ bytes.now) }
     {
         let mut name = ArrayVec::new();
-        if is_word(bytes) && name.try_extend_from_slice(bytes).is_ok() {
+        if is_name(bytes) && name.try_extend_from_slice(bytes).is_ok() {
             Some(Name { bytes: name })
         } else {
             None
         }
     }
+}
+
+/// Whether these bytes are a name.
+pub fn is_name(bytes: &[u8]) -> bool
+    ensures { result ≡ is_name bytes.now }
+{
+    bytes.len() <= 31 && is_word(bytes)
 }
 
 fn is_word(bytes: &[u8]) -> bool

@@ -6,12 +6,11 @@ ghost use Rattle.m_key.specs.Node.{Node, NodeSubscript, IsText, IsSubscript, IsN
 ghost use Rattle.m_key.specs.Key.{escaped, subscript_bytes, ended, key_bytes};
 ghost use Rattle.m_key.specs.Reference.{node_subscript_of, subscript_list, node_of};
 
-use crate::{Name, Reference, Subscript, Subscripts, Text};
+use crate::escapes::unescape;
+use crate::key_parts::split_at_zero;
+use crate::{Name, Reference, SUBSCRIPT_LIMIT, Subscript, Subscripts, Text};
 use m_number::{decode, parse_canonical};
 use std::alloc::{AllocError, Global};
-
-// No reference has more subscripts.
-const MOST: usize = 31;
 
 /// The reference that has this key, where there is one.
 pub fn reference_of(alloc: Global, key: &[u8]) -> Result<Option<Reference>, AllocError>
@@ -19,19 +18,19 @@ pub fn reference_of(alloc: Global, key: &[u8]) -> Result<Option<Reference>, Allo
     ensures none { IfOk result (λ o. IfNone o
         ((n : Node) → IsNode n → key_bytes n ≡ key.now → ⊥)) }
 {
-    let Some(end) = first_zero(key) else {
+    let Some((name, rest)) = split_at_zero(key) else {
         return Ok(None);
     };
-    let Some(name) = Name::of(&key[..end]) else {
+    let Some(name) = Name::of(name) else {
         return Ok(None);
     };
-    match read_all(alloc, &key[end + 1..])? {
+    match read_all(alloc, rest)? {
         Some(subscripts) => Ok(Some(Reference { name, subscripts })),
         None => Ok(None),
     }
 }
 
-// The subscripts that stand here, up to the 0 behind the last.
+/// The subscripts that stand here, up to the 0 behind the last.
 fn read_all(alloc: Global, bytes: &[u8]) -> Result<Option<Subscripts>, AllocError>
     ensures some { IfOk result (λ o. IfSome o
         (λ s. flat_map ended (map node_subscript_of (subscript_list s)) ++ 0 ∷ [] ≡ bytes.now)) }
@@ -42,17 +41,17 @@ fn read_all(alloc: Global, bytes: &[u8]) -> Result<Option<Subscripts>, AllocErro
     let mut items = Vec::new(alloc);
     let mut rest = bytes;
     while !is_end(rest) {
-        let Some(end) = first_zero(rest) else {
+        let Some((part, more)) = split_at_zero(rest) else {
             return Ok(None);
         };
-        if end == 0 || items.len() == MOST {
+        if items.len() == SUBSCRIPT_LIMIT {
             return Ok(None);
         }
-        let Some(subscript) = read_one(alloc, &rest[..end])? else {
+        let Some(subscript) = read_one(alloc, part)? else {
             return Ok(None);
         };
         items.push(subscript)?;
-        rest = &rest[end + 1..];
+        rest = more;
     }
     Ok(Some(Subscripts::new(items)))
 }
@@ -63,7 +62,7 @@ fn is_end(bytes: &[u8]) -> bool
     bytes.len() == 1 && bytes[0] == 0
 }
 
-// The subscript that has these bytes, without the 0 behind them.
+/// The subscript that has these bytes, without the 0 behind them.
 fn read_one(alloc: Global, bytes: &[u8]) -> Result<Option<Subscript>, AllocError>
     ensures some { IfOk result (λ o. IfSome o (λ s. subscript_bytes (node_subscript_of s) ≡ bytes.now)) }
     ensures none { IfOk result (λ o. IfNone o
@@ -76,7 +75,7 @@ fn read_one(alloc: Global, bytes: &[u8]) -> Result<Option<Subscript>, AllocError
     }
 }
 
-// The string of these bytes, which stand behind the FF.
+/// The string of these bytes, which stand behind the FF.
 fn read_text(alloc: Global, bytes: &[u8]) -> Result<Option<Subscript>, AllocError>
     ensures some { IfOk result (λ o. IfSome o
         (λ s. subscript_bytes (node_subscript_of s) ≡ 0xFF ∷ bytes.now)) }
@@ -93,7 +92,7 @@ fn read_text(alloc: Global, bytes: &[u8]) -> Result<Option<Subscript>, AllocErro
     }
 }
 
-// Whether a text is neither null nor that of a canonical number.
+/// Whether a text is neither null nor that of a canonical number.
 fn is_string(text: &[u8]) -> bool
     ensures { IsTrue result
         ↔ ((0 < length text.now) × ((n : Numeral) → IsNumeral n → text_of n ≡ text.now → ⊥)) }
@@ -102,42 +101,4 @@ fn is_string(text: &[u8]) -> bool
         Some(_) => false,
         None => !text.is_empty(),
     }
-}
-
-// The bytes that are escaped so.
-fn unescape(alloc: Global, bytes: &[u8]) -> Result<Option<Vec<u8>>, AllocError>
-    ensures some { IfOk result (λ o. IfSome o (λ t. flat_map escaped t.items ≡ bytes.now)) }
-    ensures none { IfOk result (λ o. IfNone o ((t : List ℕ) → flat_map escaped t ≡ bytes.now → ⊥)) }
-{
-    let mut text = Vec::with_capacity(alloc, bytes.len())?;
-    let mut rest = bytes;
-    while !rest.is_empty() {
-        let Some((byte, more)) = unescape_one(rest) else {
-            return Ok(None);
-        };
-        text.push(byte)?;
-        rest = more;
-    }
-    Ok(Some(text))
-}
-
-// The byte that is escaped at the front, and what stands behind it.
-fn unescape_one(bytes: &[u8]) -> Option<(u8, &[u8])>
-    ensures some { IfSome result (λ p. escaped p.0 ++ p.1.now ≡ bytes.now) }
-    ensures none { IfNone result ((b : ℕ) (rest : List ℕ) → escaped b ++ rest ≡ bytes.now → ⊥) }
-{
-    match bytes {
-        [1, 1, rest @ ..] => Some((0, rest)),
-        [1, 2, rest @ ..] => Some((1, rest)),
-        [0 | 1, ..] | [] => None,
-        [byte, rest @ ..] => Some((*byte, rest)),
-    }
-}
-
-fn first_zero(bytes: &[u8]) -> Option<usize>
-    ensures found { IfSome result (λ i. (i < length bytes.now) × (slice_index bytes.now i ≡ 0)) }
-    ensures first { IfSome result (λ i. (k : ℕ) → k < i → 0 < slice_index bytes.now k) }
-    ensures none { IfNone result ((k : ℕ) → k < length bytes.now → 0 < slice_index bytes.now k) }
-{
-    bytes.iter().position(|b| *b == 0)
 }

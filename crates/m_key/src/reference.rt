@@ -2,6 +2,9 @@ ghost use Rattle.std.specs.Prelude.{◌≡◌, ◌≤◌, length, vec_len};
 
 use crate::{Name, Subscript};
 
+/// No reference has more subscripts.
+pub const SUBSCRIPT_LIMIT: usize = 31;
+
 /// At most 31 subscripts.
 #[derive(Debug, PartialEq, Eq, Drop)]
 pub struct Subscripts {

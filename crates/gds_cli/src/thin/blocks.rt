@@ -1,10 +1,11 @@
 ghost use Rattle.std.specs.Prelude.{◌≡◌, ◌<◌, IsTrue, length, IfOk, OnOk, IfErr, IfSome, IfNone};
 ghost use Rattle.std.specs.Option.{ForSome};
-ghost use Rattle.host_model.specs.Failures.{NeverFell};
 ghost use Rattle.gds_header.specs.Fields.{block_of};
 ghost use Rattle.gds_header.specs.Kinds.{IsWithinLimits};
 ghost use Rattle.gds_cli.specs.Thin.{is_star_block};
-ghost use Rattle.gds_cli.specs.Reading.{Blames, IsChange, IsHeaderOf, LeadsTo};
+ghost use Rattle.gds_cli.specs.Trouble.{WasReadFor, IsChange};
+ghost use Rattle.gds_cli.specs.SoundHeader.{IsHeaderOf};
+ghost use Rattle.gds_cli.specs.Directory.{LeadsTo};
 
 use super::leaf::star_child;
 use super::trouble::Trouble;
@@ -21,9 +22,7 @@ pub(crate) fn read_block<H: Host>(
     requires { length block.old ≡ header.now.block_size }
     ensures bytes { OnOk result (ForSome (H.told host.old) (λ c.
         IsHeaderOf header.now c.db → number < header.now.total → block.new ≡ block_of c.db number)) }
-    ensures told { H.told host.new ≡ H.told host.old }
-    ensures failures { NeverFell (H.failures host.old) (H.failures host.new) }
-    ensures blame { IfErr result (λ t. Blames t (H.failures host.old) (H.failures host.new)) }
+    ensures host { WasReadFor H.told H.failures host.old host.new result }
     ensures changed { IfErr result (λ t. IsChange t → ForSome (H.told host.old) (λ c.
         IsHeaderOf header.now c.db → number < header.now.total → ⊥)) }
 {
@@ -51,9 +50,7 @@ pub(crate) fn read_below<H: Host>(
     ensures none { IfOk result (λ o. IfNone o (ForSome (H.told host.old) (λ c.
         IsHeaderOf header.now c.db → number < header.now.total
         → IsTrue (is_star_block header.now (block_of c.db number)) → ⊥))) }
-    ensures told { H.told host.new ≡ H.told host.old }
-    ensures failures { NeverFell (H.failures host.old) (H.failures host.new) }
-    ensures blame { IfErr result (λ t. Blames t (H.failures host.old) (H.failures host.new)) }
+    ensures host { WasReadFor H.told H.failures host.old host.new result }
     ensures changed { IfErr result (λ t. IsChange t → ForSome (H.told host.old) (λ c.
         IsHeaderOf header.now c.db → number < header.now.total → ⊥)) }
 {

@@ -1,12 +1,13 @@
 ghost use Rattle.std.specs.Prelude.{◌≡◌, ◌↔◌, nat_eq, IsTrue, List, length, map, IfOk, IfErr, IfSome, IfNone, SomeIff};
 ghost use Rattle.std.specs.List.{AllZip, IsDistinct};
 ghost use Rattle.std.specs.Option.{ForSome};
-ghost use Rattle.host_model.specs.Failures.{NeverFell};
 ghost use Rattle.gds_header.specs.Kinds.{IsWithinLimits};
 ghost use Rattle.gds_cli.specs.Thin.{Valued, IsGlobal, IsThin, root_of};
-ghost use Rattle.gds_cli.specs.LeafSeen.{valued};
+ghost use Rattle.gds_cli.specs.Leaf.{valued};
+ghost use Rattle.gds_cli.specs.Trouble.{WasReadFor, IsChange};
+ghost use Rattle.gds_cli.specs.SoundHeader.{IsHeaderOf};
+ghost use Rattle.gds_cli.specs.Directory.{IsEntry, IsNodeOf, AreNodesOf, AreTrees, AreLeaves, thin_tree_at, blocks_in};
 ghost use Rattle.m_key.specs.Reference.{name_bytes};
-ghost use Rattle.gds_cli.specs.Reading.{Blames, IsChange, IsHeaderOf, IsEntry, IsNodeOf, AreNodesOf, AreTrees, AreLeaves, tree_at, blocks_in};
 
 use super::blocks::read_below;
 use super::distinct::are_distinct;
@@ -23,7 +24,7 @@ const TOP: u32 = 1;
 
 /// The blocks of a global: its root, and the leaf below it.
 #[derive(Clone, Copy, Debug, PartialEq, Eq)]
-pub(crate) struct Tree {
+pub(crate) struct ThinTree {
     pub(crate) root: u32,
     pub(crate) leaf: u32,
 }
@@ -39,9 +40,7 @@ pub(crate) fn find_leaves<H: Host>(
         IsHeaderOf header.now c.db → AreLeaves c.db leaves.items))) }
     ensures none { IfOk result (λ o. IfNone o (ForSome (H.told host.old) (λ c. IsHeaderOf header.now c.db
         → (directory : List Valued) (globals : List (List Valued)) → IsThin c.db c.images directory globals → ⊥))) }
-    ensures told { H.told host.new ≡ H.told host.old }
-    ensures failures { NeverFell (H.failures host.old) (H.failures host.new) }
-    ensures blame { IfErr result (λ t. Blames t (H.failures host.old) (H.failures host.new)) }
+    ensures host { WasReadFor H.told H.failures host.old host.new result }
     ensures changed { IfErr result (λ t. IsChange t → ForSome (H.told host.old) (λ c. IsHeaderOf header.now c.db → ⊥)) }
 {
     let mut directory = vec![in alloc; 0u8; header.block_size as usize]?;
@@ -64,9 +63,7 @@ fn read_leaves<H: Host>(
         IsHeaderOf header.now c.db → AreLeaves c.db leaves.items))) }
     ensures none { IfOk result (λ o. IfNone o (ForSome (H.told host.old) (λ c. IsHeaderOf header.now c.db
         → (directory : List Valued) (globals : List (List Valued)) → IsThin c.db c.images directory globals → ⊥))) }
-    ensures told { H.told host.new ≡ H.told host.old }
-    ensures failures { NeverFell (H.failures host.old) (H.failures host.new) }
-    ensures blame { IfErr result (λ t. Blames t (H.failures host.old) (H.failures host.new)) }
+    ensures host { WasReadFor H.told H.failures host.old host.new result }
     ensures changed { IfErr result (λ t. IsChange t → ForSome (H.told host.old) (λ c. IsHeaderOf header.now c.db → ⊥)) }
 {
     let Some(number) = read_below(host, header, TOP, directory)? else {
@@ -88,7 +85,7 @@ fn read_leaves<H: Host>(
 fn distinct_leaves(
     alloc: Global,
     directory: u32,
-    trees: &[Tree],
+    trees: &[ThinTree],
 ) -> Result<Option<Vec<u32>>, AllocError>
     ensures some { IfOk result (λ o. IfSome o (λ leaves. leaves.items ≡ map (λ t. t.leaf) trees.now)) }
     ensures distinct { IfOk result (λ o. IfSome o (λ leaves. IsDistinct nat_eq (blocks_in directory trees.now))) }
@@ -102,7 +99,7 @@ fn distinct_leaves(
 }
 
 /// The numbers of the blocks that aren't maps: block 1, the directory leaf, and those of the trees.
-fn blocks_in(alloc: Global, directory: u32, trees: &[Tree]) -> Result<Vec<u32>, AllocError>
+fn blocks_in(alloc: Global, directory: u32, trees: &[ThinTree]) -> Result<Vec<u32>, AllocError>
     ensures { IfOk result (λ v. v.items ≡ blocks_in directory trees.now) }
 {
     let mut blocks = vec![in alloc; TOP, directory]?;
@@ -120,16 +117,14 @@ fn read_trees<H: Host>(
     header: &Header,
     entries: &[LeafNode],
     block: &mut [u8],
-) -> Result<Option<Vec<Tree>>, Trouble>
+) -> Result<Option<Vec<ThinTree>>, Trouble>
     requires limits { IsWithinLimits header.now }
     requires room { length block.old ≡ header.now.block_size }
     ensures some { IfOk result (λ o. IfSome o (λ trees. ForSome (H.told host.old) (λ c.
         IsHeaderOf header.now c.db → AreTrees c.db (map valued entries.now) trees.items))) }
     ensures none { IfOk result (λ o. IfNone o (ForSome (H.told host.old) (λ c. IsHeaderOf header.now c.db
         → (globals : List (List Valued)) → AllZip (IsGlobal c.db) (map valued entries.now) globals → ⊥))) }
-    ensures told { H.told host.new ≡ H.told host.old }
-    ensures failures { NeverFell (H.failures host.old) (H.failures host.new) }
-    ensures blame { IfErr result (λ t. Blames t (H.failures host.old) (H.failures host.new)) }
+    ensures host { WasReadFor H.told H.failures host.old host.new result }
     ensures changed { IfErr result (λ t. IsChange t → ForSome (H.told host.old) (λ c. IsHeaderOf header.now c.db → ⊥)) }
 {
     let mut trees = Vec::new(alloc);
@@ -149,16 +144,14 @@ fn read_tree<H: Host>(
     header: &Header,
     entry: &LeafNode,
     block: &mut [u8],
-) -> Result<Option<Tree>, Trouble>
+) -> Result<Option<ThinTree>, Trouble>
     requires limits { IsWithinLimits header.now }
     requires room { length block.old ≡ header.now.block_size }
     ensures some { IfOk result (λ o. IfSome o (λ tree. ForSome (H.told host.old) (λ c. IsHeaderOf header.now c.db
-        → (tree ≡ tree_at c.db (valued entry.now)) × ((vs : List Valued) × IsGlobal c.db (valued entry.now) vs)))) }
+        → (tree ≡ thin_tree_at c.db (valued entry.now)) × ((vs : List Valued) × IsGlobal c.db (valued entry.now) vs)))) }
     ensures none { IfOk result (λ o. IfNone o (ForSome (H.told host.old) (λ c. IsHeaderOf header.now c.db
         → (vs : List Valued) → IsGlobal c.db (valued entry.now) vs → ⊥))) }
-    ensures told { H.told host.new ≡ H.told host.old }
-    ensures failures { NeverFell (H.failures host.old) (H.failures host.new) }
-    ensures blame { IfErr result (λ t. Blames t (H.failures host.old) (H.failures host.new)) }
+    ensures host { WasReadFor H.told H.failures host.old host.new result }
     ensures changed { IfErr result (λ t. IsChange t → ForSome (H.told host.old) (λ c. IsHeaderOf header.now c.db → ⊥)) }
 {
     let Some(root) = root_of(header, entry) else {
@@ -171,7 +164,7 @@ fn read_tree<H: Host>(
         return Ok(None);
     };
     if are_nodes_of(header, &entry.reference.name, &nodes) {
-        Ok(Some(Tree { root, leaf }))
+        Ok(Some(ThinTree { root, leaf }))
     } else {
         Ok(None)
     }

@@ -1,11 +1,11 @@
 ghost use Rattle.std.specs.Prelude.{◌≡◌, None, IfOk, IfErr, IfSome, IfNone};
 ghost use Rattle.std.specs.Option.{ForSome};
-ghost use Rattle.host_model.specs.Failures.{NeverFell};
 ghost use Rattle.gds_header.specs.Kinds.{IsWithinLimits};
 ghost use Rattle.m_key.specs.Globals.{Globals};
 ghost use Rattle.gds_cli.specs.Thin.{IsThinWith};
-ghost use Rattle.gds_cli.specs.Reading.{Blames, IsChange, FindsThin};
-ghost use Rattle.gds_cli.specs.Saying.{ExtractEnds};
+ghost use Rattle.gds_cli.specs.Trouble.{AreBlamed, WasReadFor, IsChange};
+ghost use Rattle.gds_cli.specs.Directory.{FindsThin};
+ghost use Rattle.gds_cli.specs.Extract.{ExtractEnds};
 
 use super::directory::find_leaves;
 use super::header::sound_header;
@@ -26,8 +26,7 @@ struct Thin {
 /// Says the extract of thin files. Of others it says nothing, and answers false.
 pub(crate) fn extract<H: Host>(alloc: Global, host: &mut H, stamp: &[u8]) -> Result<bool, Trouble>
     ensures told { ForSome (H.told host.old) (λ c. ExtractEnds stamp.now c result (H.told host.new)) }
-    ensures failures { NeverFell (H.failures host.old) (H.failures host.new) }
-    ensures blame { IfErr result (λ t. Blames t (H.failures host.old) (H.failures host.new)) }
+    ensures blamed { AreBlamed result (H.failures host.old) (H.failures host.new) }
     ensures changed { IfErr result (λ t. IsChange t → H.told host.old ≡ None) }
 {
     let Some(thin) = find_thin(alloc, host)? else {
@@ -46,9 +45,7 @@ fn find_thin<H: Host>(alloc: Global, host: &mut H) -> Result<Option<Thin>, Troub
     ensures limits { IfOk result (λ o. IfSome o (λ thin. IsWithinLimits thin.header)) }
     ensures none { IfOk result (λ o. IfNone o (ForSome (H.told host.old) (λ c.
         (m : Globals) → IsThinWith c.db c.images m → ⊥))) }
-    ensures told { H.told host.new ≡ H.told host.old }
-    ensures failures { NeverFell (H.failures host.old) (H.failures host.new) }
-    ensures blame { IfErr result (λ t. Blames t (H.failures host.old) (H.failures host.new)) }
+    ensures host { WasReadFor H.told H.failures host.old host.new result }
     ensures changed { IfErr result (λ t. IsChange t → H.told host.old ≡ None) }
 {
     if !is_closed(host)? {

@@ -1,10 +1,10 @@
 ghost use Rattle.std.specs.Prelude.{◌≡◌, ◌≢◌, ℕ, List, [], length, take, not, ◌||◌, ◌==◌, IfOk, IfErr, IfSome, IfNone, None};
 ghost use Rattle.std.specs.Option.{ForSome};
 ghost use Rattle.std.specs.List.{list_all, list_any};
-ghost use Rattle.host_model.specs.Failures.{NeverFell};
 ghost use Rattle.gds_header.specs.Fields.{fields_of};
 ghost use Rattle.gds_header.specs.Kinds.{IsWithinLimits, header_faults, holds, has_free, groups_past, reserved_bytes};
-ghost use Rattle.gds_cli.specs.Reading.{Blames, IsChange, IsHeaderOf, are_zeros, is_clear, is_sound};
+ghost use Rattle.gds_cli.specs.Trouble.{WasReadFor, IsChange};
+ghost use Rattle.gds_cli.specs.SoundHeader.{IsHeaderOf, are_zeros, is_clear, is_faultless};
 
 use super::trouble::Trouble;
 use gds_header::{HEADER_LENGTH, Header};
@@ -23,9 +23,7 @@ pub(crate) fn sound_header<H: Host>(host: &mut H) -> Result<Option<Header>, Trou
     ensures some { IfOk result (λ o. IfSome o (λ h. ForSome (H.told host.old) (λ c. IsHeaderOf h c.db))) }
     ensures limits { IfOk result (λ o. IfSome o IsWithinLimits) }
     ensures none { IfOk result (λ o. IfNone o (ForSome (H.told host.old) (λ c. header_faults c.db ≢ []))) }
-    ensures told { H.told host.new ≡ H.told host.old }
-    ensures failures { NeverFell (H.failures host.old) (H.failures host.new) }
-    ensures blame { IfErr result (λ t. Blames t (H.failures host.old) (H.failures host.new)) }
+    ensures host { WasReadFor H.told H.failures host.old host.new result }
     ensures changed { IfErr result (λ t. IsChange t → H.told host.old ≡ None) }
 {
     let length = host.len(FileNo::Db)?;
@@ -47,17 +45,17 @@ fn sound(bytes: &[u8], size: u64) -> Option<Header>
     ensures none { IfNone result ((d : List ℕ) → take 8192 d ≡ bytes.now → length d ≡ size → header_faults d ≢ []) }
 {
     match Header::read(bytes) {
-        Ok(header) if is_sound(&header, bytes, size) => Some(header),
+        Ok(header) if is_faultless(&header, bytes, size) => Some(header),
         Ok(_) => None,
         Err(_) => None,
     }
 }
 
 /// Whether a header has no fault that could be read past, in a file of this length.
-fn is_sound(header: &Header, bytes: &[u8], size: u64) -> bool
+fn is_faultless(header: &Header, bytes: &[u8], size: u64) -> bool
     requires bytes { length bytes.now ≡ 8192 }
     requires limits { IsWithinLimits header.now }
-    ensures { result ≡ is_sound header.now bytes.now size }
+    ensures { result ≡ is_faultless header.now bytes.now size }
 {
     header.file_length() == size && is_clear(header, bytes) && header.tn >= 1 && header.tn <= TN_MAX
 }

@@ -1,8 +1,7 @@
 ghost use Rattle.std.specs.Prelude.{◌≡◌, nat_eq, codes, [], ◌∷◌, ◌++◌, IfOk, IfErr};
 ghost use Rattle.std.specs.Option.{ForSome};
 ghost use Rattle.std.specs.List.{starts_with};
-ghost use Rattle.host_model.specs.Failures.{NeverFell};
-ghost use Rattle.gds_cli.specs.Reading.{Blames, IsChange};
+ghost use Rattle.gds_cli.specs.Trouble.{WasReadFor, IsChange};
 
 use super::trouble::Trouble;
 use host_model::{FileNo, Host};
@@ -14,9 +13,7 @@ const CLOSED: [u8; 9] = *b"GDSBIMG1\0";
 pub(crate) fn is_closed<H: Host>(host: &mut H) -> Result<bool, Trouble>
     ensures value { IfOk result (λ b. ForSome (H.told host.old) (λ c.
         b ≡ starts_with nat_eq c.images (codes "GDSBIMG1" ++ 0 ∷ []))) }
-    ensures told { H.told host.new ≡ H.told host.old }
-    ensures failures { NeverFell (H.failures host.old) (H.failures host.new) }
-    ensures blame { IfErr result (λ t. Blames t (H.failures host.old) (H.failures host.new)) }
+    ensures host { WasReadFor H.told H.failures host.old host.new result }
     ensures changed { IfErr result (λ t. IsChange t → ⊥) }
 {
     let mut front = [0u8; CLOSED.len()];

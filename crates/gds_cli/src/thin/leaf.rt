@@ -1,18 +1,18 @@
-ghost use Rattle.std.specs.Prelude.{◌≡◌, ◌≤◌, ◌↔◌, ℕ, false, List, ◌++◌, length, take, map, nat_eq, IsTrue, IfOk, IfSome, IfNone, SomeIff};
-ghost use Rattle.std.specs.List.{common_prefix_len};
+ghost use Rattle.std.specs.Prelude.{◌≡◌, ◌≤◌, ◌↔◌, ℕ, List, length, take, map, IsTrue, IfOk, IfSome, IfNone, SomeIff};
 ghost use Rattle.std.specs.Ordering.{nat_cmp, is_lt};
 ghost use Rattle.std.specs.Cmp.Lexicographic.{slice_cmp};
 ghost use Rattle.m_key.specs.Node.{Node, IsNode};
 ghost use Rattle.m_key.specs.Key.{key_bytes};
+ghost use Rattle.m_key.specs.KeyEnd.{shared};
 ghost use Rattle.m_key.specs.Reference.{node_of};
 ghost use Rattle.gds_block.specs.View.{record_of};
 ghost use Rattle.gds_header.specs.Kinds.{IsWithinLimits};
-ghost use Rattle.gds_cli.specs.Thin.{Valued, IsRecordOf, IsLeaf, child_of, is_block_number, is_star_block};
-ghost use Rattle.gds_cli.specs.LeafSeen.{valued, end_after, IsSplit, IsListed};
+ghost use Rattle.gds_cli.specs.Thin.{Valued, IsRecordOf, IsLeaf, star_child, is_block_number, is_star_block};
+ghost use Rattle.gds_cli.specs.Leaf.{valued, IsSplit, IsListed};
 
-use gds_block::{BlockView, RecordView};
+use gds_block::{BlockView, RecordView, u16_at, u32_at};
 use gds_header::Header;
-use m_key::{Key, Reference, reference_of};
+use m_key::{Key, Reference, end_in, ends_in_zero, join_key, reference_of};
 use std::alloc::{AllocError, Global};
 
 /// A node of a leaf and its value, which stays in the block.
@@ -106,49 +106,18 @@ fn split_record<'a>(key_max: u32, previous: &[u8], view: RecordView<'a>) -> Opti
     if previous.len() < count {
         return None;
     }
-    let mut key = joined(&previous[..count], view.body);
-    let end = key_end(key.as_slice())?;
-    key.truncate(end);
-    if end < count || end > key_max as usize || !is_next(previous, key.as_slice(), count) {
+    let front = &previous[..count];
+    let end = end_in(ends_in_zero(front), view.body)?;
+    if count + end > key_max as usize {
         return None;
     }
-    let (_, value) = view.body.split_at(end - count);
-    Some((key, value))
-}
-
-// As many of the bytes of one slice and then of another as a key may have.
-fn joined(front: &[u8], back: &[u8]) -> Key
-    ensures { result.items ≡ take 255 (front.now ++ back.now) }
-{
-    let mut bytes = Key::new();
-    fill(&mut bytes, front);
-    fill(&mut bytes, back);
-    bytes
-}
-
-// Appends as many of the bytes as fit.
-fn fill(key: &mut Key, bytes: &[u8])
-    ensures { key.new.items ≡ take 255 (key.old.items ++ bytes.now) }
-{
-    let room = bytes.len().min(key.remaining_capacity());
-    for byte in &bytes[..room] {
-        key.push(*byte);
+    let (back, value) = view.body.split_at(end);
+    let key = join_key(front, back);
+    if is_next(previous, key.as_slice(), count) {
+        Some((key, value))
+    } else {
+        None
     }
-}
-
-// How many bytes there are up to the second of the first two neighbouring zero bytes.
-fn key_end(bytes: &[u8]) -> Option<usize>
-    ensures value { result ≡ end_after false bytes.now }
-    ensures within { IfSome result (λ n. n ≤ length bytes.now) }
-{
-    let mut zero = false;
-    for (i, byte) in bytes.iter().enumerate() {
-        if zero && *byte == 0 {
-            return Some(i + 1);
-        }
-        zero = *byte == 0;
-    }
-    None
 }
 
 // Whether a key that shares its first `count` bytes with the one before it shares no more and is above it.
@@ -156,7 +125,7 @@ fn is_next(previous: &[u8], key: &[u8], count: usize) -> bool
     requires shared { take count previous.now ≡ take count key.now }
     requires within_previous { count ≤ length previous.now }
     requires within_key { count ≤ length key.now }
-    ensures { IsTrue result ↔ ((count ≡ common_prefix_len nat_eq previous.now key.now)
+    ensures { IsTrue result ↔ ((count ≡ shared previous.now key.now)
         × IsTrue (is_lt (slice_cmp nat_cmp previous.now key.now))) }
 {
     count < key.len() && (count == previous.len() || previous[count] < key[count])
@@ -165,16 +134,14 @@ fn is_next(previous: &[u8], key: &[u8], count: usize) -> bool
 /// The block that a star block points to, or `None` where this is no star block.
 pub(crate) fn star_child(header: &Header, block: &[u8]) -> Option<u32>
     requires { 24 ≤ length block.now }
-    ensures { SomeIff result (IsTrue (is_star_block header.now block.now)) (child_of block.now) }
+    ensures { SomeIff result (IsTrue (is_star_block header.now block.now)) (star_child block.now) }
 {
     let view = BlockView::new(block)?;
     if view.version() != 1 || view.reserved() != 0 || view.level() != 1 || view.used() != 24 {
         return None;
     }
-    let size = u16::from_le_bytes([block[16], block[17]]);
-    let count = u16::from_le_bytes([block[18], block[19]]);
-    let child = u32::from_le_bytes([block[20], block[21], block[22], block[23]]);
-    if size == 8 && count == 0 && is_block_number(header, child) {
+    let child = u32_at(block, 20);
+    if u16_at(block, 16) == 8 && u16_at(block, 18) == 0 && is_block_number(header, child) {
         Some(child)
     } else {
         None

@@ -11,6 +11,3 @@ mod trouble;
 
 pub(crate) use extract::extract;
 pub(crate) use trouble::Trouble;
-
-#[cfg(test)]
-mod tests;

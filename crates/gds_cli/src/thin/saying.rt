@@ -1,13 +1,13 @@
 ghost use Rattle.std.specs.Prelude.{◌≡◌, List, length, map, flat_map, codes, OnOk, IfErr};
 ghost use Rattle.std.specs.List.{AllZip};
 ghost use Rattle.std.specs.Option.{ForSome};
-ghost use Rattle.host_model.specs.Failures.{NeverFell};
 ghost use Rattle.gds_header.specs.Kinds.{IsWithinLimits};
 ghost use Rattle.m_text.specs.Extract.{head_lines, zwr_node};
 ghost use Rattle.gds_cli.specs.Thin.{Valued};
-ghost use Rattle.gds_cli.specs.LeafSeen.{valued};
-ghost use Rattle.gds_cli.specs.Reading.{Blames, IsChange, IsHeaderOf, IsLeafAt};
-ghost use Rattle.gds_cli.specs.Saying.{SaidOf};
+ghost use Rattle.gds_cli.specs.Leaf.{valued, IsLeafAt};
+ghost use Rattle.gds_cli.specs.Trouble.{AreBlamed, IsChange};
+ghost use Rattle.gds_cli.specs.SoundHeader.{IsHeaderOf};
+ghost use Rattle.gds_cli.specs.Extract.{SaidOf};
 
 use super::blocks::read_block;
 use super::leaf::{LeafNode, read_leaf};
@@ -20,8 +20,7 @@ use std::alloc::{AllocError, Global};
 /// Says the two lines before the nodes.
 pub(crate) fn say_head<H: Host>(alloc: Global, host: &mut H, stamp: &[u8]) -> Result<(), Trouble>
     ensures said { ForSome (H.told host.old) (λ c. SaidOf c (head_lines stamp.now (codes "ZWR")) result (H.told host.new)) }
-    ensures failures { NeverFell (H.failures host.old) (H.failures host.new) }
-    ensures blame { IfErr result (λ t. Blames t (H.failures host.old) (H.failures host.new)) }
+    ensures blamed { AreBlamed result (H.failures host.old) (H.failures host.new) }
     ensures changed { IfErr result (λ t. IsChange t → ⊥) }
 {
     let mut line = Vec::new(alloc);
@@ -44,8 +43,7 @@ pub(crate) fn say_leaves<H: Host>(
     ensures said { ForSome (H.told host.old) (λ c. (globals : List (List Valued)) → IsHeaderOf header.now c.db
         → AllZip (IsLeafAt header.now c.db) leaves.now globals
         → SaidOf c (flat_map (flat_map zwr_node) globals) result (H.told host.new)) }
-    ensures failures { NeverFell (H.failures host.old) (H.failures host.new) }
-    ensures blame { IfErr result (λ t. Blames t (H.failures host.old) (H.failures host.new)) }
+    ensures blamed { AreBlamed result (H.failures host.old) (H.failures host.new) }
     ensures changed { IfErr result (λ t. IsChange t → ForSome (H.told host.old) (λ c. (globals : List (List Valued))
         → IsHeaderOf header.now c.db → AllZip (IsLeafAt header.now c.db) leaves.now globals → ⊥)) }
 {
@@ -69,8 +67,7 @@ fn say_leaf<H: Host>(
     requires room { length block.old ≡ header.now.block_size }
     ensures said { ForSome (H.told host.old) (λ c. (vs : List Valued) → IsHeaderOf header.now c.db
         → IsLeafAt header.now c.db leaf vs → SaidOf c (flat_map zwr_node vs) result (H.told host.new)) }
-    ensures failures { NeverFell (H.failures host.old) (H.failures host.new) }
-    ensures blame { IfErr result (λ t. Blames t (H.failures host.old) (H.failures host.new)) }
+    ensures blamed { AreBlamed result (H.failures host.old) (H.failures host.new) }
     ensures changed { IfErr result (λ t. IsChange t → ForSome (H.told host.old) (λ c. (vs : List Valued)
         → IsHeaderOf header.now c.db → IsLeafAt header.now c.db leaf vs → ⊥)) }
 {
@@ -87,8 +84,7 @@ fn say_leaf<H: Host>(
 fn say_nodes<H: Host>(host: &mut H, nodes: &[LeafNode], line: &mut Vec<u8>) -> Result<(), Trouble>
     ensures said { ForSome (H.told host.old) (λ c.
         SaidOf c (flat_map zwr_node (map valued nodes.now)) result (H.told host.new)) }
-    ensures failures { NeverFell (H.failures host.old) (H.failures host.new) }
-    ensures blame { IfErr result (λ t. Blames t (H.failures host.old) (H.failures host.new)) }
+    ensures blamed { AreBlamed result (H.failures host.old) (H.failures host.new) }
     ensures changed { IfErr result (λ t. IsChange t → ⊥) }
 {
     for node in nodes {
@@ -112,8 +108,7 @@ fn write_node(node: &LeafNode, line: &mut Vec<u8>) -> Result<(), AllocError>
 
 fn say_line<H: Host>(host: &mut H, line: &[u8]) -> Result<(), Trouble>
     ensures said { ForSome (H.told host.old) (λ c. SaidOf c line.now result (H.told host.new)) }
-    ensures failures { NeverFell (H.failures host.old) (H.failures host.new) }
-    ensures blame { IfErr result (λ t. Blames t (H.failures host.old) (H.failures host.new)) }
+    ensures blamed { AreBlamed result (H.failures host.old) (H.failures host.new) }
     ensures changed { IfErr result (λ t. IsChange t → ⊥) }
 {
     match host.say(line) {

@@ -1,5 +1,5 @@
 use Rattle.std.proofs.Common.{ap, length, drop, arith, length-take}
-use Rattle.gds_block.proofs.HeadLaws.{HasHead-head_bytes}
+use Rattle.gds_block.proofs.HeadLemmas.{HasHead-head_bytes}
 use Rattle.gds_block.proofs.head.write_head.Goals as goal
 
 pub copy_from_slice-requires : goal.copy_from_slice-requires

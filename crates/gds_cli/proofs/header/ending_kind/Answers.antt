@@ -1,7 +1,7 @@
 use Rattle.std.proofs.Common.{◌<◌, ◌≤◌, length, refl, sym, ◌∙◌, ap, None, Some, cond, ltb, arith}
 use Rattle.std.proofs.lemmas.Bool.{lt-ltb, le-ltb}
 use Rattle.gds_header.specs.declared.kind.HeaderKind.TheVariants.{ShortFile}
-use Rattle.gds_cli.proofs.HeaderRead.{short_file, begins_told, decided}
+use Rattle.gds_cli.proofs.HeaderReadingLemmas.{short_file, begins_told, decided}
 use Rattle.gds_cli.proofs.header.ending_kind.Goals as goal
 
 pub returns-then-length-clause-kind : goal.returns-then-length-clause-kind

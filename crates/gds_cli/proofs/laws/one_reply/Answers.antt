@@ -1,4 +1,4 @@
-use Rattle.gds_cli.proofs.Due.{one_due, some_due}
+use Rattle.gds_cli.proofs.DueLemmas.{one_due, some_due}
 use Rattle.gds_cli.proofs.laws.one_reply.Goals as goal
 
 pub returns-clause-one : goal.returns-clause-one

@@ -1,4 +1,4 @@
-use Rattle.gds_header.proofs.Ending.{ending_kind-front}
+use Rattle.gds_header.proofs.EndingLemmas.{ending_kind-front}
 use Rattle.gds_header.proofs.kind.ending_is_decided_by_front.Goals as goal
 
 pub returns : goal.returns

@@ -3,9 +3,11 @@ use Rattle.std.specs.Io.KnownBytes.{prepend_known}
 use Rattle.host_model.specs.Told.{TellsOn}
 use Rattle.gds_lines.specs.Lines.{line_len, after_first_line}
 use Rattle.gds_lines.specs.Ahead.{held, text_left}
+use Rattle.gds_lines.proofs.CountLemmas.{counts_then}
 use Rattle.gds_lines.proofs.PartLemmas.{length-cut}
 use Rattle.gds_lines.proofs.LineLemmas.{LooksAs, line_len-take_unended, line_len-grown}
-use Rattle.gds_lines.proofs.ToldLemmas.{found-line, found-rest, seen-shortened, seen-filled, seen-ended, ended-line, ended-rest}
+use Rattle.gds_lines.proofs.ToldLemmas.{found-line, found-rest, seen-shortened, seen-filled, seen-ended, ended-line}
+use Rattle.gds_lines.proofs.ToldLemmas.{ended-rest}
 use Rattle.gds_lines.proofs.finding.find_line.Goals as goal
 
 abbrev Unended : List ℕ → Type 0
@@ -71,6 +73,8 @@ loop-end-preserved g c =
     let n = c.in_ok-fill.field-0 in
     record {
       seen = seen-filled text (text_left c.shorten.new.self left) (text_left c.fill.new.ahead now) (λ new. n ≡ 0 → new ≡ held c.fill.new.ahead) seen c.in_ok-fill.ensures.text;
+      counts = counts_then c.args.taken.now c.loop-end.taken c.fill.new.taken (g.I.Source.left c.args.source.now) left now
+          c.loop-end.invariant.counts c.fill.ensures.counts;
       scanned = omega (arith, c.len-scanned.ensures, line_len-grown (held c.shorten.new.self) (held c.fill.new.ahead) cut c.fill.ensures.held);
       behind = omega (arith, c.loop-end.invariant.behind, c.shorten.ensures.len, c.fill.ensures.passed);
       onward = omega (arith, c.loop-end.invariant.onward, c.shorten.ensures.len, c.fill.ensures.passed);
@@ -78,3 +82,13 @@ loop-end-preserved g c =
       within = c.in_ok-fill.ensures.within;
       failures = omega (arith, c.loop-end.invariant.failures, c.fill.ensures.failures);
     }
+
+pub returns-in_err-fill-clause-counts : goal.returns-in_err-fill-clause-counts
+returns-in_err-fill-clause-counts g c =
+    counts_then c.args.taken.now c.loop-end.taken c.fill.new.taken (g.I.Source.left c.args.source.now) (g.I.Source.left c.loop-end.source) (g.I.Source.left c.fill.new.source)
+    c.loop-end.invariant.counts c.in_err-fill.ensures.counts
+
+pub returns-then-branch-eq0-clause-counts : goal.returns-then-branch-eq0-clause-counts
+returns-then-branch-eq0-clause-counts g c =
+    counts_then c.args.taken.now c.loop-end.taken c.fill.new.taken (g.I.Source.left c.args.source.now) (g.I.Source.left c.loop-end.source) (g.I.Source.left c.fill.new.source)
+    c.loop-end.invariant.counts c.in_ok-fill.ensures.counts

@@ -1,6 +1,6 @@
 use Rattle.std.proofs.Common.{length, ap, rules, arith}
 use Rattle.std.proofs.lemmas.Slice.{between_to_end}
-use Rattle.gds_block.proofs.RecordLaws.{records_from-first}
+use Rattle.gds_block.proofs.RecordLemmas.{records_from-first}
 use Rattle.gds_block.proofs.records.RecordsIterator.next.Goals as goal
 
 pub returns-clause-steps : goal.returns-clause-steps

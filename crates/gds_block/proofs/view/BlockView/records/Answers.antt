@@ -2,8 +2,8 @@ use Rattle.std.proofs.Common.{sym, ◌∙◌, ◌≡◌, ◌≤◌, ◌-◌, ℕ
 use Rattle.std.proofs.lemmas.Slice.{between_is}
 use Rattle.gds_block.specs.Block.{level_of, used_of}
 use Rattle.gds_block.specs.Record.{bytes_left, records_of}
-use Rattle.gds_block.proofs.RecordLaws.{AreRecords-records_from, records_from-unique}
-use Rattle.gds_block.proofs.PlaceLaws.{All-records_of, few_records}
+use Rattle.gds_block.proofs.RecordLemmas.{AreRecords-records_from, records_from-unique}
+use Rattle.gds_block.proofs.PlaceLemmas.{All-records_of, few_records}
 use Rattle.gds_block.proofs.view.BlockView.records.Goals as goal
 
 listed : (c : goal.After-new) → c.new.result ≡ records_of c.args.self.now

@@ -1,5 +1,5 @@
 use Rattle.std.proofs.Common.{◌<◌, length, arith}
-use Rattle.gds_cli.proofs.ThinBlocks.{read_whole}
+use Rattle.gds_cli.proofs.BlockLemmas.{read_whole}
 use Rattle.gds_cli.proofs.thin.blocks.read_block.Goals as goal
 
 pub returns-then-branch-block-clause-changed : goal.returns-then-branch-block-clause-changed

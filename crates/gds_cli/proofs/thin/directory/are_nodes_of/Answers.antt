@@ -1,9 +1,9 @@
 use Rattle.std.proofs.Common.{◌≡◌, ◌<◌, ◌∙◌, map, length, get_or, subst, sym, ap}
 use Rattle.std.proofs.lemmas.List.{get_or-map, length-map}
 use Rattle.m_key.specs.Reference.{name_bytes}
-use Rattle.gds_cli.specs.LeafSeen.{valued}
-use Rattle.gds_cli.specs.Reading.{IsNodeOf}
-use Rattle.gds_cli.proofs.ThinTrees.{all_at}
+use Rattle.gds_cli.specs.Leaf.{valued}
+use Rattle.gds_cli.specs.Directory.{IsNodeOf}
+use Rattle.gds_cli.proofs.DirectoryLemmas.{all_at}
 use Rattle.gds_cli.proofs.thin.directory.are_nodes_of.Goals as goal
 
 pub returns-then-not-is_node_of : goal.returns-then-not-is_node_of

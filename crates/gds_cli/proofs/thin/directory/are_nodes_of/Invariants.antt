@@ -1,8 +1,8 @@
 use Rattle.std.proofs.Common.{map, take}
 use Rattle.std.specs.List.{AllByRecursion}
 use Rattle.m_key.specs.Reference.{name_bytes}
-use Rattle.gds_cli.specs.LeafSeen.{valued}
-use Rattle.gds_cli.specs.Reading.{IsNodeOf}
+use Rattle.gds_cli.specs.Leaf.{valued}
+use Rattle.gds_cli.specs.Directory.{IsNodeOf}
 use Rattle.gds_cli.proofs.thin.directory.are_nodes_of.Given as goal
 
 -- those so far are of the global

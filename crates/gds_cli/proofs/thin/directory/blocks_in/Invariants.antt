@@ -1,5 +1,5 @@
 use Rattle.std.proofs.Common.{◌≡◌, take}
-use Rattle.gds_cli.specs.Reading.{blocks_in}
+use Rattle.gds_cli.specs.Directory.{blocks_in}
 use Rattle.gds_cli.proofs.thin.directory.blocks_in.Given as goal
 
 abbrev pub invariant-loop-tree : goal.invariant-loop-tree

@@ -1,10 +1,10 @@
 use Rattle.std.proofs.Common.{◌<◌, List, map, subst, sym, arith}
 use Rattle.gds_cli.specs.declared.thin.leaf.LeafNode.{LeafNode}
 use Rattle.gds_cli.specs.Thin.{root_of}
-use Rattle.gds_cli.specs.LeafSeen.{valued}
-use Rattle.gds_cli.specs.Reading.{AreNodesOf}
+use Rattle.gds_cli.specs.Leaf.{valued}
+use Rattle.gds_cli.specs.Directory.{AreNodesOf}
 use Rattle.m_key.specs.Reference.{name_bytes}
-use Rattle.gds_cli.proofs.ThinTrees.{number_within, global_star, global_of, is_tree, global_leaf, no_global}
+use Rattle.gds_cli.proofs.DirectoryLemmas.{number_within, global_star, global_of, is_tree, global_leaf, no_global}
 use Rattle.gds_cli.proofs.thin.directory.read_tree.Goals as goal
 
 pub returns-in_default-2-clause-none : goal.returns-in_default-2-clause-none

@@ -1,7 +1,7 @@
 use Rattle.std.proofs.Common.{◌≡◌, true, false, eqb, take, get_or, refl, arith}
 use Rattle.std.proofs.lemmas.Grind.{common_steps}
 use Rattle.std.specs.List.{list_any}
-use Rattle.gds_cli.proofs.ThinDistinct.{twice_at, distinct_more, IsDistinct-none}
+use Rattle.gds_cli.proofs.DistinctLemmas.{twice_at, distinct_more, IsDistinct-none}
 use Rattle.gds_cli.proofs.thin.distinct.are_distinct.Goals as goal
 
 pub loop-number-init : goal.loop-number-init

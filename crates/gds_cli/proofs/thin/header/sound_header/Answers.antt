@@ -1,9 +1,9 @@
 use Rattle.std.proofs.Common.{◌≡◌, ℕ, List, [], length, take, refl, sym, arith}
 use Rattle.std.specs.Option.{ForSome}
 use Rattle.gds_header.specs.Kinds.{header_faults}
-use Rattle.gds_cli.specs.Reading.{IsHeaderOf}
-use Rattle.gds_cli.proofs.HeaderRead.{begins_told}
-use Rattle.gds_cli.proofs.ThinHeader.{at_told, some_weaker, none_weaker, short_header}
+use Rattle.gds_cli.specs.SoundHeader.{IsHeaderOf}
+use Rattle.gds_cli.proofs.HeaderReadingLemmas.{begins_told}
+use Rattle.gds_cli.proofs.SoundHeaderLemmas.{at_told, some_weaker, none_weaker, short_header}
 use Rattle.gds_cli.proofs.thin.header.sound_header.Goals as goal
 
 pub returns-then-length-clause-none : goal.returns-then-length-clause-none

@@ -1,6 +1,6 @@
 use Rattle.std.proofs.Common.{arith}
 use Rattle.std.proofs.lemmas.Bool.{eq-eqb, le-ltb}
-use Rattle.gds_cli.proofs.LeafRecord.{next_at_end, next_past, next_apart}
+use Rattle.gds_cli.proofs.LeafRecordLemmas.{next_at_end, next_past, next_apart}
 use Rattle.gds_cli.proofs.thin.leaf.is_next.Goals as goal
 
 pub returns-then-count-previous : goal.returns-then-count-previous

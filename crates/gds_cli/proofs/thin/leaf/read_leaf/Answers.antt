@@ -1,7 +1,7 @@
 use Rattle.std.proofs.Common.{ℕ, List, IfOk, IfNone, subst}
 use Rattle.gds_cli.specs.Thin.{Valued, IsLeaf}
-use Rattle.gds_cli.specs.LeafSeen.{IsListed}
-use Rattle.gds_cli.proofs.LeafRead.{none_weaker}
+use Rattle.gds_cli.specs.Leaf.{IsListed}
+use Rattle.gds_cli.proofs.LeafReadingLemmas.{none_weaker}
 use Rattle.gds_cli.proofs.thin.leaf.read_leaf.Goals as goal
 
 pub returns-clause-none : goal.returns-clause-none

@@ -1,7 +1,7 @@
 use Rattle.std.proofs.Common.{◌≡◌, ◌+◌, map}
 use Rattle.gds_block.specs.Record.{records_of}
-use Rattle.gds_cli.specs.LeafSeen.{valued}
-use Rattle.gds_cli.proofs.LeafRead.{SoFar, bytes_of}
+use Rattle.gds_cli.specs.Leaf.{valued}
+use Rattle.gds_cli.proofs.LeafReadingLemmas.{SoFar, bytes_of}
 use Rattle.gds_cli.proofs.thin.leaf.read_nodes.Given as goal
 
 abbrev pub invariant-loop-view : goal.invariant-loop-view

@@ -2,7 +2,7 @@ use Rattle.std.proofs.Common.{◌≡◌, ◌++◌, ◌∷◌, List, ℕ, codes, 
 use Rattle.std.proofs.lemmas.Grind.{common_steps}
 use Rattle.std.proofs.lemmas.Result.{err_from_is_err_and}
 use Rattle.m_text.specs.Extract.{line, head_lines}
-use Rattle.gds_cli.proofs.ThinSaying.{on_break, front_first, said_last}
+use Rattle.gds_cli.proofs.SayingLemmas.{on_break, front_first, said_last}
 use Rattle.gds_cli.proofs.thin.saying.say_head.Goals as goal
 
 pub returns-in_err-say_line-clause-said : goal.returns-in_err-say_line-clause-said

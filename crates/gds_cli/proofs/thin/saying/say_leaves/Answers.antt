@@ -3,8 +3,8 @@ use Rattle.std.proofs.lemmas.Result.{err_from_is_err_and}
 use Rattle.host_model.specs.Files.{saying}
 use Rattle.host_model.proofs.FailureLemmas.{NeverFell-trans}
 use Rattle.m_text.specs.Extract.{zwr_node}
-use Rattle.gds_cli.specs.Reading.{IsLeafAt}
-use Rattle.gds_cli.proofs.ThinSaying.{on_break, front_line, said_line, zip_at, zip_length, get_or_same}
+use Rattle.gds_cli.specs.Leaf.{IsLeafAt}
+use Rattle.gds_cli.proofs.SayingLemmas.{on_break, front_line, said_line, zip_at, zip_length, get_or_same}
 use Rattle.gds_cli.proofs.thin.saying.say_leaves.Goals as goal
 
 pub returns-in_err-say_leaf-clause-said : goal.returns-in_err-say_leaf-clause-said
@@ -36,7 +36,7 @@ loop-leaf-preserved g c = record {
       said_line (flat_map zwr_node) x _ globals i vs (flat_map zwr_node vs) within (get_or_same globals i within) refl
       (c.in_ok-say_leaf.ensures.said _ (c.loop-leaf.invariant.said x tells globals head all) vs head
       (zip_at (IsLeafAt c.args.header.now x.db) c.args.leaves.now globals i 0 [] all c.loop-leaf-test.true));
-  failures = NeverFell-trans _ _ _ c.loop-leaf.invariant.failures c.in_ok-say_leaf.ensures.failures;
+  failures = NeverFell-trans _ _ _ c.loop-leaf.invariant.failures c.in_ok-say_leaf.ensures.blamed.failures;
 }
 
 pub returns-clause-said : goal.returns-clause-said

@@ -5,7 +5,8 @@ use Rattle.host_model.specs.Files.{saying}
 use Rattle.host_model.specs.Failures.{NeverFell}
 use Rattle.m_text.specs.Extract.{zwr_node}
 use Rattle.gds_cli.specs.Thin.{Valued}
-use Rattle.gds_cli.specs.Reading.{IsHeaderOf, IsLeafAt}
+use Rattle.gds_cli.specs.SoundHeader.{IsHeaderOf}
+use Rattle.gds_cli.specs.Leaf.{IsLeafAt}
 use Rattle.gds_cli.proofs.thin.saying.say_leaves.Given as goal
 
 -- the lines of the leaves so far were said

@@ -4,8 +4,8 @@ use Rattle.std.proofs.lemmas.Result.{err_from_is_err_and}
 use Rattle.host_model.specs.Files.{saying}
 use Rattle.host_model.proofs.FailureLemmas.{NeverFell-trans}
 use Rattle.m_text.specs.Extract.{zwr_node}
-use Rattle.gds_cli.specs.LeafSeen.{valued}
-use Rattle.gds_cli.proofs.ThinSaying.{on_break, front_whole, front_line, said_line, texts_split}
+use Rattle.gds_cli.specs.Leaf.{valued}
+use Rattle.gds_cli.proofs.SayingLemmas.{on_break, front_whole, front_line, said_line, texts_split}
 use Rattle.gds_cli.proofs.thin.saying.say_nodes.Goals as goal
 
 pub returns-in_err-write_node-clause-said : goal.returns-in_err-write_node-clause-said
@@ -38,7 +38,7 @@ loop-node-preserved g c = record {
       let is : valued item ≡ get_or vs i (valued item) = sym (get_or-map valued c.args.nodes.now i item (valued item) c.loop-node-test.true ∙ ap valued (sym c.node-item.is)) in
       said_line zwr_node x _ vs i (valued item) c.deref.result.now within is (c.deref.ensures.value ∙ c.in_ok-write_node.ensures)
       (c.in_ok-say_line.ensures.said _ (c.loop-node.invariant.said x tells));
-  failures = NeverFell-trans _ _ _ c.loop-node.invariant.failures c.in_ok-say_line.ensures.failures;
+  failures = NeverFell-trans _ _ _ c.loop-node.invariant.failures c.in_ok-say_line.ensures.blamed.failures;
 }
 
 pub returns-clause-said : goal.returns-clause-said

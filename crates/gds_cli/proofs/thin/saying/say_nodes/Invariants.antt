@@ -3,7 +3,7 @@ use Rattle.std.specs.Option.{ForSome}
 use Rattle.host_model.specs.Files.{saying}
 use Rattle.host_model.specs.Failures.{NeverFell}
 use Rattle.m_text.specs.Extract.{zwr_node}
-use Rattle.gds_cli.specs.LeafSeen.{valued}
+use Rattle.gds_cli.specs.Leaf.{valued}
 use Rattle.gds_cli.proofs.thin.saying.say_nodes.Given as goal
 
 -- the lines so far were said

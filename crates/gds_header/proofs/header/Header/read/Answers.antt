@@ -2,7 +2,7 @@ use Rattle.std.proofs.Common.{◌≡◌, length, cond, ltb, Some, None, sym, ap,
 use Rattle.gds_header.specs.Fields.{file_length_of}
 use Rattle.gds_header.specs.Kinds.{kind_of, unreadable, ending_kind}
 use Rattle.gds_header.specs.declared.kind.HeaderKind.TheVariants.{ShortFile}
-use Rattle.gds_header.proofs.Ending.{ending_kind-unreadable, ending_kind-readable, within_limits}
+use Rattle.gds_header.proofs.EndingLemmas.{ending_kind-unreadable, ending_kind-readable, within_limits}
 use Rattle.gds_header.proofs.header.Header.read.Goals as goal
 
 pub returns-in-Some-clause-file_err : goal.returns-in-Some-clause-file_err

@@ -1,6 +1,6 @@
 use Rattle.std.proofs.Common.{◌≡◌, ◌∙◌, arith, rules, ap}
 use Rattle.gds_header.specs.Fields.{zeros, header_bytes, fields_of}
-use Rattle.gds_header.proofs.Writing.{written, fields_of-header_bytes, readable-header_bytes, zeros-replicate}
+use Rattle.gds_header.proofs.WritingLemmas.{written, fields_of-header_bytes, readable-header_bytes, zeros-replicate}
 use Rattle.gds_header.specs.Kinds.{unreadable}
 use Rattle.gds_header.proofs.header.Header.write.Goals as goal
 
@@ -9,7 +9,7 @@ filled c = zeros-replicate _ _ _ (c.fill.ensures.after (λ y same. same)) c.requ
 
 as_bytes : goal.returns-clause-bytes
 as_bytes c =
-    written c.args.self.now _ _ _ _ _ _ _ _ _ _ _ (search rules) (filled c) c.put.ensures c.put_u32.ensures c.put_u32-2.ensures c.put_u32-3.ensures c.put_u32-4.ensures c.put_u32-5.ensures c.put_u32-6.ensures c.put_u32-7.ensures c.put_u64.ensures c.put-2.ensures
+    written c.args.self.now _ _ _ _ _ _ _ _ _ _ _ (search rules) (filled c) c.put_bytes.ensures c.put_u32.ensures c.put_u32-2.ensures c.put_u32-3.ensures c.put_u32-4.ensures c.put_u32-5.ensures c.put_u32-6.ensures c.put_u32-7.ensures c.put_u64.ensures c.put_bytes-2.ensures
 
 again : (c : goal.After-slice_known-12-1) → fields_of (header_bytes c.args.self.now) ≡ c.args.self.now
 again c = fields_of-header_bytes c.args.self.now (record {

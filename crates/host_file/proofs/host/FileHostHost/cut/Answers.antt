@@ -1,4 +1,4 @@
-use Rattle.host_file.proofs.AnyLeft.{no_cut}
+use Rattle.host_file.proofs.LeftLemmas.{no_cut}
 use Rattle.host_file.proofs.host.FileHostHost.cut.Goals as goal
 
 pub returns-clause-crash : goal.returns-clause-crash

@@ -1,4 +1,4 @@
-use Rattle.host_file.proofs.AnyLeft.{no_saying}
+use Rattle.host_file.proofs.LeftLemmas.{no_saying}
 use Rattle.host_file.proofs.host.FileHostHost.say.Goals as goal
 
 pub returns-then-is_err-clause-crash : goal.returns-then-is_err-clause-crash

@@ -1,5 +1,5 @@
 use Rattle.std.proofs.Common.{length}
-use Rattle.host_file.proofs.AnyLeft.{no_write}
+use Rattle.host_file.proofs.LeftLemmas.{no_write}
 use Rattle.host_file.proofs.host.FileHostHost.write_at.Goals as goal
 
 pub returns-clause-crash : goal.returns-clause-crash

@@ -1,5 +1,6 @@
 use Rattle.std.proofs.Common.{◌≡◌, ap, subst}
-use Rattle.host_mem.specs.Memory.{Listed, Memory, contents_of, left_since}
+use Rattle.host_mem.specs.Listed.{Listed}
+use Rattle.host_mem.specs.Memory.{Memory, contents_of, left_since}
 use Rattle.host_mem.proofs.CrashLemmas.{crash_allowed}
 use Rattle.host_mem.proofs.host.MemHost.crash.Goals as goal
 

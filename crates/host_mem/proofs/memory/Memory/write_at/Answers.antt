@@ -3,7 +3,8 @@ use Rattle.host_model.specs.Disk.{Changes, Elapses, Follows, Torn, Writes}
 use Rattle.host_model.specs.Failures.{counted}
 use Rattle.host_mem.specs.Inside.{seen}
 use Rattle.host_mem.specs.Memory.{Memory, contents_of, left_since}
-use Rattle.host_mem.proofs.CallLemmas.{unchanged, write_crash, write_effect, write_numbered, write_time, write_told, writes}
+use Rattle.host_mem.proofs.CallLemmas.{unchanged, write_crash, write_effect, write_numbered, write_time, write_told}
+use Rattle.host_mem.proofs.CallLemmas.{writes}
 use Rattle.host_mem.proofs.memory.Memory.write_at.Goals as goal
 
 pub invariant_of-self : goal.invariant_of-self

@@ -19,8 +19,8 @@ returns-in-Some-2 c =
     let s = seen e.record in
     let k : IsKeyed b s c.in-Some-2.key.items e.rest.now e.fault = rw c.in-Some-2.is at c.requires.entry in
     c.below.ensures
-    ∙ target-keyed b s c.args.block c.key_of.result.items c.if-self-eq0.false k.not_last
-    (k.whole ∙ sym (c.key_of.ensures ∙ c.as_slice-in-Some-2.ensures.value))
+    ∙ target-keyed b s c.args.block c.key_from.result.items c.if-self-eq0.false k.not_last
+    (k.whole ∙ sym (c.key_from.ensures ∙ c.as_slice-in-Some-2.ensures.value))
 
 pub returns-in-None : goal.returns-in-None
 returns-in-None c =

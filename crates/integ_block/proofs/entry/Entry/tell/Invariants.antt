@@ -3,7 +3,7 @@ use Rattle.std.specs.Prelude.{filter}
 use Rattle.gds_law.specs.Record.{holds}
 use Rattle.integ_block.specs.Entry.{seen}
 use Rattle.integ_block.specs.BlockReading.{reading, faults_at}
-use Rattle.integ_block.proofs.Reached.{Reached}
+use Rattle.gds_law.proofs.SinkLemmas.{Reached}
 use Rattle.integ_block.proofs.entry.Entry.tell.Given as goal
 
 -- what of the kinds is left to be told

@@ -1,34 +1,60 @@
-use Rattle.std.proofs.Common.{◌++◌, length, sym, ◌∙◌, ap}
-use Rattle.std.specs.Prelude.{map}
+use Rattle.std.proofs.Common.{◌≡◌, ◌++◌, length, sym, ◌∙◌, ap}
+use Rattle.std.specs.Prelude.{map, filter}
 use Rattle.std.specs.Option.{option_to_list}
 use Rattle.std.proofs.lemmas.List.{append-nil, map-append}
-use Rattle.integ_block.specs.Entry.{seen}
+use Rattle.integ_block.specs.Entry.{seen, faults_here}
 use Rattle.integ_block.specs.BlockReading.{reading, faults_at}
-use Rattle.integ_block.specs.Child.{seen_child}
-use Rattle.integ_block.proofs.Reached.{IsCut-all, OnErr-any}
+use Rattle.integ_block.specs.Child.{child_of}
+use Rattle.gds_law.proofs.SinkLemmas.{IsCut-all, IsCut-none, IsCut-stop, Reached-none, Grew-ok, Grew-err, WasTold-ok, WasTold-err, WasTold-handed}
+use Rattle.std.proofs.lemmas.Result.{err_from_is_err_and}
+use Rattle.gds_law.specs.Record.{holds}
+use Rattle.gds_law.specs.declared.sink.SinkTrouble.TheVariants.{Failed}
+use Rattle.integ_block.proofs.EntryLaws.{entry_kinds}
 use Rattle.integ_block.proofs.ReadLaws.{kinds_of-read, Leaves-read, children-read}
+use Rattle.integ_block.proofs.entry.Entry.tell_all.Given.{Over}
 use Rattle.integ_block.proofs.entry.Entry.tell_all.Goals as goal
-use Rattle.integ_block.proofs.entry.Entry.tell_all.Goals.{in-Some+in_ok-push, in_default}
+use Rattle.integ_block.proofs.entry.Entry.tell_all.Goals.{After-tell, in-Some+in_ok-push, in_default}
 
-pub returns-in_err-count-clause-err : goal.returns-in_err-count-clause-err
-returns-in_err-count-clause-err g c =
-    let e = c.args.self in
-    rw (kinds_of-read (reading e.record.reading) (seen e.record) e.key e.rest.now e.fault c.requires.entry)
-    (OnErr-any c.from_residual.result _ c.in_err-count.ensures.err)
-
-pub returns-in_err-push-clause-err : goal.returns-in_err-push-clause-err
-returns-in_err-push-clause-err g c =
-    let e = c.args.self in
-    rw (kinds_of-read (reading e.record.reading) (seen e.record) e.key e.rest.now e.fault c.requires.entry)
-    (OnErr-any c.from_residual-in_err-push.result _ (IsCut-all _ _ _ c.in_ok-count.ensures.ok))
-
-pub returns-clause-ok : goal.returns-clause-ok
-returns-clause-ok g c =
+-- the same faults, as the record has them
+told_here : (g : Over) (c : After-tell g) → faults_here c.args.self.record
+    ≡ faults_at (reading c.args.self.record.reading) c.args.self.record.reading.at.now.path c.args.self.record.view.offset
+    (filter (holds (reading c.args.self.record.reading) (seen c.args.self.record)) entry_kinds)
+told_here g c =
     let e = c.args.self in
     let b = reading e.record.reading in
-    let s = seen e.record in
-    let all = kinds_of-read b s e.key e.rest.now e.fault c.requires.entry in
-    c.in_ok-count.ensures.ok ∙ ap (λ ks. g.F.FaultSink.listed c.args.sink.now ++ faults_at b e.record.reading.at.now.path e.record.view.offset ks) (sym all)
+    ap (faults_at b e.record.reading.at.now.path e.record.view.offset)
+    (kinds_of-read b (seen e.record) e.key e.rest.now e.fault c.requires.entry)
+
+pub returns-in_err-count-clause-told : goal.returns-in_err-count-clause-told
+returns-in_err-count-clause-told g c =
+    let p = err_from_is_err_and c.from_residual.result c.from_residual.ensures.1 in
+    rw (told_here g (goal.at.returns-in_err-count-clause-told g c).After-tell)
+    (WasTold-handed g.F.FaultSink.listed g.F.FaultSink.failures c.args.sink.now c.tell.new.sink _ Failed _ c.from_residual.result Failed p.0
+    c.in_err-count.ensures.told p.1 (λ e. sym p.2 ∙ e))
+
+pub returns-in_err-count-clause-children : goal.returns-in_err-count-clause-children
+returns-in_err-count-clause-children g c =
+    let p = err_from_is_err_and c.from_residual.result c.from_residual.ensures.1 in
+    Grew-err _ _ _ c.from_residual.result p.0 p.1 (IsCut-none _ _)
+
+pub returns-in_err-push-clause-told : goal.returns-in_err-push-clause-told
+returns-in_err-push-clause-told g c =
+    let p = err_from_is_err_and c.from_residual-in_err-push.result c.from_residual-in_err-push.ensures.1 in
+    rw (told_here g (goal.at.returns-in_err-push-clause-told g c).After-tell)
+    (WasTold-err g.F.FaultSink.listed g.F.FaultSink.failures c.args.sink.now c.tell.new.sink _ c.from_residual-in_err-push.result Failed p.0 p.1
+    (IsCut-all _ _ _ c.in_ok-count.ensures.told.faults.all) c.in_ok-count.ensures.told.failures (λ e. let no = sym p.2 ∙ e in absurd (cc)))
+
+pub returns-in_err-push-clause-children : goal.returns-in_err-push-clause-children
+returns-in_err-push-clause-children g c =
+    let p = err_from_is_err_and c.from_residual-in_err-push.result c.from_residual-in_err-push.ensures.1 in
+    Grew-err _ _ _ c.from_residual-in_err-push.result p.0 p.1 (IsCut-stop _ _ _ _ _ 0 (Reached-none _ _) (ap (map child_of) c.in_err-push.ensures.items))
+
+pub returns-clause-told : goal.returns-clause-told
+returns-clause-told g c =
+    let same = told_here g (goal.at.returns-clause-told g c).After-tell in
+    WasTold-ok g.F.FaultSink.listed g.F.FaultSink.failures c.args.sink.now c.tell.new.sink _ _ Failed
+    (c.in_ok-count.ensures.told.faults.all ∙ ap (λ xs. g.F.FaultSink.listed c.args.sink.now ++ xs) (sym same))
+    c.in_ok-count.ensures.told.failures
 
 pub returns-clause-count : goal.returns-clause-count
 returns-clause-count g c =
@@ -45,15 +71,16 @@ returns-clause-children g c =
     let e = c.args.self in
     let b = reading e.record.reading in
     let s = seen e.record in
-    let before = map seen_child c.args.children.now.items in
+    let before = map child_of c.args.children.now.items in
     let here = c.child.ensures ∙ children-read b s e.key e.rest.now e.fault c.requires.entry in
-    elim c.match-child.branch [
+    Grew-ok _ _ _ _
+    (elim c.match-child.branch [
       | in-Some+in_ok-push w ↦
           let i = w.in-Some.is in
-          ap (λ (v : _). map seen_child v.items) w.children-is ∙ ap (map seen_child) w.in_ok-push.ensures.items ∙ map-append seen_child _ _
-          ∙ ap (λ o. before ++ map seen_child (option_to_list o)) (sym w.in-Some.is) ∙ ap (λ xs. before ++ xs) here
+          ap (λ (v : _). map child_of v.items) w.children-is ∙ ap (map child_of) w.in_ok-push.ensures.items ∙ map-append child_of _ _
+          ∙ ap (λ o. before ++ map child_of (option_to_list o)) (sym w.in-Some.is) ∙ ap (λ xs. before ++ xs) here
       | in_default w ↦
           let i = w.in_default.is in
-          ap (λ (v : _). map seen_child v.items) w.children-is ∙ sym (append-nil before)
-          ∙ ap (λ o. before ++ map seen_child (option_to_list o)) (sym w.in_default.is) ∙ ap (λ xs. before ++ xs) here
-    ]
+          ap (λ (v : _). map child_of v.items) w.children-is ∙ sym (append-nil before)
+          ∙ ap (λ o. before ++ map child_of (option_to_list o)) (sym w.in_default.is) ∙ ap (λ xs. before ++ xs) here
+    ])

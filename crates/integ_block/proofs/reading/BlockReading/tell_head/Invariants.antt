@@ -3,7 +3,7 @@ use Rattle.std.specs.List.{list_any}
 use Rattle.gds_law.specs.Block.{head_holds}
 use Rattle.gds_law.specs.Kinds.{ends}
 use Rattle.integ_block.specs.BlockReading.{reading, faults_at}
-use Rattle.integ_block.proofs.Reached.{Reached}
+use Rattle.gds_law.proofs.SinkLemmas.{Reached}
 use Rattle.integ_block.proofs.KindLaws.{kept}
 use Rattle.integ_block.proofs.reading.BlockReading.tell_head.Given as goal
 

@@ -4,7 +4,7 @@ use Rattle.std.specs.List.{prefix_len}
 use Rattle.integ_block.proofs.record.Record.root.Goals as goal
 
 -- A key's name is no longer than the key.
-pub key_of-requires : goal.key_of-requires
-key_of-requires c =
+pub key_from-requires : goal.key_from-requires
+key_from-requires c =
     let key = c.args.key.now in
     omega (arith, ap length c.name_part.ensures, length-take (prefix_len (λ b. not (b == 0)) key) key)

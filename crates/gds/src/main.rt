@@ -1,0 +1,38 @@
+//! The program `gds PATH WORDS`: one command on the database at PATH, and its answer on standard output.
+#![tactic(auto)]
+
+use gds_cli::{Status, gds};
+use host_file::{FileHost, StdinSource};
+use std::alloc::AllocError;
+use std::env;
+use std::process::ExitCode;
+
+/// The exit status where the arguments can't be had, as where one isn't UTF-8.
+const NO_ARGUMENTS: u8 = 24;
+
+/// The command line, without the program's own name.
+fn arguments(rt: &HostRuntime) -> Option<Vec<String>> {
+    let mut all: Vec<String> = env::args(rt).ok()?.collect(rt.alloc()).ok()?;
+    if !all.is_empty() {
+        all.remove(0);
+    }
+    Some(all)
+}
+
+/// Runs the words on the files at `path`.
+fn run(rt: &HostRuntime, path: &str, words: &[String]) -> Result<u8, AllocError> {
+    let host = FileHost::new(rt, rt.alloc(), path)?;
+    let input = StdinSource::new(rt);
+    Ok(gds(rt.alloc(), words, host, input).status.code())
+}
+
+fn main(rt: HostRuntime) -> ExitCode {
+    let Some(all) = arguments(&rt) else {
+        return ExitCode::from(NO_ARGUMENTS);
+    };
+    let outcome = match all.split_first() {
+        None => run(&rt, "", &[]),
+        Some((path, words)) => run(&rt, path.as_str(), words),
+    };
+    ExitCode::from(outcome.unwrap_or(Status::Memory.code()))
+}

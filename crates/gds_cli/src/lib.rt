@@ -1,0 +1,14 @@
+//! The top call `gds`: one command on the files of a host, and its answer, with the exit status that it ends with.
+#![tactic(auto)]
+
+mod call;
+mod header;
+mod laws;
+mod status;
+mod thin;
+mod words;
+
+pub use call::{Ended, gds};
+pub use laws::one_reply;
+pub use status::Status;
+pub use words::{BadWords, Command, read_words};
