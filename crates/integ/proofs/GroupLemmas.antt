@@ -1,6 +1,7 @@
 -- The faults of the pairs of a group, place by place, and how many of its blocks are free.
 use Rattle.std.proofs.Common.{ℕ, zero, suc, ◌≡◌, ◌+◌, ◌-◌, ◌*◌, ◌/◌, ◌%◌, ◌<◌, ◌≤◌, Bool, true, false, cond, eqb, ltb, List, [], ◌∷◌, ◌++◌, length, refl, sym, ◌∙◌, ap, subst, arith, append_assoc, add-zero, add-suc, one-add}
-use Rattle.std.specs.Prelude.{flat_map, map, filter, min, slice_index, ◌&&◌, if◌then◌else◌}
+use Rattle.std.specs.Prelude.{flat_map, map, filter, min, nat_lt, slice_index, ◌&&◌, if◌then◌else◌, Option}
+use Rattle.std.specs.Option.{option_to_list}
 use Rattle.std.specs.List.{range_with_len}
 use Rattle.std.specs.Int.{bit_at}
 use Rattle.std.proofs.lemmas.Bool.{lt-ltb, le-ltb}
@@ -8,7 +9,12 @@ use Rattle.gds_bitmap.specs.Pairs.{pair_in, count_below}
 use Rattle.gds_bitmap.specs.Bitmap.{pair_of, is_free_at}
 use Rattle.gds_bitmap.proofs.CountLaws.{count_below-add, count_below-same}
 use Rattle.gds_law.specs.Maps.{map_number, is_present, fault_of}
-use Rattle.integ.specs.GroupMap.{GroupMap, in_use, free_count, kinds_of_pair, faults_at, pair_faults, AreRight}
+use Rattle.gds_law.specs.Kinds.{map_kinds}
+use Rattle.gds_law.specs.declared.kind.FaultKind.{FaultKind}
+use Rattle.gds_law.specs.declared.kind.FaultKind.TheVariants.{BadVersion, TransactionTooNew, MapUsedTooSmall, MapUsedTooLarge, MapLevel, GroupMarkedFree, GroupMarkedFull}
+use Rattle.integ.specs.Standing.{standing}
+use Rattle.integ.proofs.StandingLemmas.{standing-filter}
+use Rattle.integ.specs.GroupMap.{GroupMap, in_use, free_count, kinds_of_pair, kinds_at, faults_at, faults_in, head_holds, head_kinds, AreRight}
 
 -- ---- numbers one after another
 
@@ -28,24 +34,44 @@ flat_map-append f [] ys = refl
 flat_map-append f (x ∷ xs) ys = ap (λ l. f x ++ l) (flat_map-append f xs ys) ∙ sym (append_assoc (f x) (flat_map f xs) (flat_map f ys))
 
 module _ {B : Type 0} (f : ℕ → List B) where
-  -- those up to an end: so many of them, and the others
-  pub flat-run : (a m e : ℕ) → a + m ≤ e → flat_map f (range_with_len a (e - a)) ≡ flat_map f (range_with_len a m) ++ flat_map f (range_with_len (a + m) (e - (a + m)))
-  flat-run a m e within =
-      let parts : e - a ≡ m + (e - (a + m)) = omega arith in
-      ap (λ n. flat_map f (range_with_len a n)) parts
-      ∙ ap (flat_map f) (range-add a m (e - (a + m)))
-      ∙ flat_map-append f (range_with_len a m) (range_with_len (a + m) (e - (a + m)))
-
-  -- the next one
-  pub flat-next : (a e : ℕ) → a < e → flat_map f (range_with_len a (e - a)) ≡ f a ++ flat_map f (range_with_len (a + 1) (e - (a + 1)))
-  flat-next a e within =
-      let parts : e - a ≡ suc (e - (a + 1)) = omega arith in
-      ap (λ n. flat_map f (range_with_len a n)) parts
-
-  pub flat-none : (n a : ℕ) → ((k : ℕ) → a ≤ k → k < a + n → f k ≡ []) → flat_map f (range_with_len a n) ≡ []
+  flat-none : (n a : ℕ) → ((k : ℕ) → a ≤ k → k < a + n → f k ≡ []) → flat_map f (range_with_len a n) ≡ []
   flat-none zero a h = refl
   flat-none (suc n) a h =
-      rw (h a (omega arith) (omega arith)) (flat-none n (a + 1) (λ k low high. h k (omega arith) (omega arith)))
+      ap (λ xs. xs ++ flat_map f (range_with_len (a + 1) n)) (h a (omega arith) (omega arith))
+      ∙ flat-none n (a + 1) (λ k low high. h k (omega arith) (omega arith))
+
+-- those up to an end: so many of them, and the others
+pub faults_in-run : (g : GroupMap) (a m e : ℕ) → a + m ≤ e → faults_in g a (e - a) ≡ faults_in g a m ++ faults_in g (a + m) (e - (a + m))
+unfolding faults_in
+faults_in-run g a m e within =
+    let parts : e - a ≡ m + (e - (a + m)) = omega arith in
+    ap (λ n. flat_map (faults_at g) (range_with_len a n)) parts
+    ∙ ap (flat_map (faults_at g)) (range-add a m (e - (a + m)))
+    ∙ flat_map-append (faults_at g) (range_with_len a m) (range_with_len (a + m) (e - (a + m)))
+
+-- the next one
+pub faults_in-next : (g : GroupMap) (a e : ℕ) → a < e → faults_in g a (e - a) ≡ faults_at g a ++ faults_in g (a + 1) (e - (a + 1))
+unfolding faults_in
+faults_in-next g a e within =
+    let parts : e - a ≡ suc (e - (a + 1)) = omega arith in
+    ap (λ n. flat_map (faults_at g) (range_with_len a n)) parts
+
+-- none are left
+pub faults_in-end : (g : GroupMap) (a e : ℕ) → e ≤ a → faults_in g a (e - a) ≡ []
+unfolding faults_in
+faults_in-end g a e past =
+    let none : e - a ≡ 0 = omega arith in
+    ap (λ n. flat_map (faults_at g) (range_with_len a n)) none
+
+-- the next four
+pub faults_in-four : (g : GroupMap) (i : ℕ) → i < 128 → faults_in g (4 * i) (512 - 4 * i) ≡ faults_in g (4 * i) 4 ++ faults_in g (4 * (i + 1)) (512 - 4 * (i + 1))
+faults_in-four g i within =
+    let place : 4 * i + 4 ≡ 4 * (i + 1) = omega arith in
+    faults_in-run g (4 * i) 4 512 (omega arith) ∙ ap (λ a. faults_in g (4 * i) 4 ++ faults_in g a (512 - a)) place
+
+pub faults_at-is : (g : GroupMap) (k : ℕ) (found : Option FaultKind) → option_to_list found ≡ kinds_at g k
+    → faults_at g k ≡ map (fault_of (map_number g.number + k)) (option_to_list found)
+faults_at-is g k found is = ap (map (fault_of (map_number g.number + k))) (sym is)
 
 -- ---- four pairs at once
 
@@ -58,7 +84,8 @@ pair_of-byte map i j h =
 -- Nothing is told of a byte whose four pairs are right.
 pub four-none : (g : GroupMap) (i byte used : ℕ) → 512 * g.number + (4 * i + 4) ≤ g.header.total → byte ≡ slice_index g.bytes (16 + i)
     → ((j : ℕ) → j < 4 → eqb (bit_at used j) 1 ≡ in_use g.used (map_number g.number + (4 * i + j)))
-    → AreRight byte used → flat_map (faults_at g) (range_with_len (4 * i) 4) ≡ []
+    → AreRight byte used → faults_in g (4 * i) 4 ≡ []
+unfolding faults_in
 four-none g i byte used whole is bits right = flat-none (faults_at g) 4 (4 * i) each
   where
     each : (k : ℕ) → 4 * i ≤ k → k < 4 * i + 4 → faults_at g k ≡ []
@@ -73,23 +100,67 @@ four-none g i byte used whole is bits right = flat-none (faults_at g) 4 (4 * i) 
             ap (pair_of g.bytes) place ∙ pair_of-byte g.bytes i j within ∙ ap (λ b. pair_in b j) (sym is) in
         ap (map (fault_of (map_number g.number + k))) ((λ m. kinds_of_pair (present m) (marked m) (pair m)) ∙ right j within)
 
--- ---- the runs that the loops go through
-
-pub pairs-all : (g : GroupMap) → pair_faults g ≡ flat_map (faults_at g) (range_with_len 0 512)
-unfolding pair_faults
-pairs-all g = refl
-
 -- ---- how many are free
 
 count-range : (p : ℕ → Bool) (a n : ℕ) → length (filter p (range_with_len a n)) ≡ count_below (λ j. p (a + j)) n
 count-range p a zero = refl
 count-range p a (suc n) =
-    let rest = count-range p (a + 1) n in
     let split = count_below-add (λ j. p (a + j)) 1 n in
-    let first : a + 0 ≡ a = omega arith in
-    let same = count_below-same (λ j. p ((a + 1) + j)) (λ j. p (a + (1 + j))) n (λ j l. let e : (a + 1) + j ≡ a + (1 + j) = omega arith in ap p e) in
-    ?
+    let more : 1 + n ≡ suc n = omega arith in
+    let here : a + 0 ≡ a = omega arith in
+    length-cond (p a) (filter p (range_with_len (a + 1) n)) a
+    ∙ (λ i. (if p (sym here i) then 1 else 0) + (count-range p (a + 1) n ∙ count_below-same (λ j. p ((a + 1) + j)) (λ j. p (a + (1 + j))) n
+    (λ j l. let e : (a + 1) + j ≡ a + (1 + j) = omega arith in ap p e)) i)
+    ∙ sym (split ∙ ap (λ m. m + count_below (λ j. p (a + (1 + j))) n) (count-one (λ j. p (a + j))))
+    ∙ ap (count_below (λ j. p (a + j))) more
+  where
+    count-one : (q : ℕ → Bool) → count_below q 1 ≡ (if q 0 then 1 else 0)
+    count-one q = omega arith
+
+    length-cond : (b : Bool) (xs : List ℕ) (x : ℕ) → length (if b then x ∷ xs else xs) ≡ (if b then 1 else 0) + length xs
+    length-cond true xs x = omega arith
+    length-cond false xs x = omega arith
+
+count-none : (p : ℕ → Bool) (n : ℕ) → ((j : ℕ) → j < n → p j ≡ false) → count_below p n ≡ 0
+count-none p zero h = refl
+count-none p (suc n) h = (λ i. count-none p n (λ j l. h j (omega arith)) i + (if h n (omega arith) i then 1 else 0))
+
+-- Of the blocks below a bound those below the total are counted.
+count-present : (p : ℕ → Bool) (first total bound present : ℕ) → present ≡ min bound (total - first)
+    → count_below (λ k. nat_lt (first + k) total && p k) bound ≡ count_below p present
+count-present p first total bound present is =
+    let q = λ (k : ℕ). nat_lt (first + k) total && p k in
+    let parts : bound ≡ present + (bound - present) = omega arith in
+    ap (count_below q) parts
+    ∙ count_below-add q present (bound - present)
+    ∙ (λ i. count_below-same q p present (λ k l. ap (λ b. b && p k) (lt-ltb (first + k) total (omega arith))) i
+    + count-none (λ j. q (present + j)) (bound - present)
+    (λ j l. ap (λ b. b && p (present + j)) (le-ltb (first + (present + j)) total (omega arith))) i)
+    ∙ add-zero (count_below p present)
+
+free-any : (g : GroupMap) (bound present : ℕ) → present ≡ min bound (g.header.total - 512 * g.number)
+    → length (filter (λ k. is_present g.header g.number k && is_free_at g.bytes k) (range_with_len 0 bound)) ≡ count_below (is_free_at g.bytes) present
+free-any g bound present is =
+    let q = λ (k : ℕ). is_present g.header g.number k && is_free_at g.bytes k in
+    count-range q 0 bound
+    ∙ count_below-same (λ j. q (0 + j)) q bound (λ j l. let e : 0 + j ≡ j = omega arith in ap q e)
+    ∙ count-present (is_free_at g.bytes) (map_number g.number) g.header.total bound present is
 
 pub free-is : (g : GroupMap) (present : ℕ) → present ≡ min 512 (g.header.total - 512 * g.number) → count_below (is_free_at g.bytes) present ≡ free_count g
 unfolding free_count
-free-is g present is = ?
+free-is g present is = sym (free-any g 512 present is)
+
+-- ---- the head
+
+pub head-is : (g : GroupMap) (version tn small large level free full : Bool)
+    → version ≡ head_holds g BadVersion → tn ≡ head_holds g TransactionTooNew → small ≡ head_holds g MapUsedTooSmall
+    → large ≡ head_holds g MapUsedTooLarge → level ≡ head_holds g MapLevel → free ≡ head_holds g GroupMarkedFree
+    → full ≡ head_holds g GroupMarkedFull
+    → standing ((BadVersion, version) ∷ (TransactionTooNew, tn) ∷ (MapUsedTooSmall, small) ∷ (MapUsedTooLarge, large)
+    ∷ (MapLevel, level) ∷ (GroupMarkedFree, free) ∷ (GroupMarkedFull, full) ∷ [])
+    ≡ head_kinds g
+unfolding head_kinds
+head-is g version tn small large level free full a b c d e f h =
+    (λ i. standing ((BadVersion, a i) ∷ (TransactionTooNew, b i) ∷ (MapUsedTooSmall, c i) ∷ (MapUsedTooLarge, d i)
+    ∷ (MapLevel, e i) ∷ (GroupMarkedFree, f i) ∷ (GroupMarkedFull, h i) ∷ []))
+    ∙ standing-filter (head_holds g) map_kinds

@@ -4,3 +4,4 @@ pub mod PairLemmas
 pub mod StandingLemmas
 pub mod FourLemmas
 pub mod GroupLemmas
+pub mod TellLemmas

@@ -1,6 +1,7 @@
 -- The faults of the map of a group of 512 blocks, by the header and the map's bytes alone.
 use Rattle.std.specs.Prelude.{ℕ, ◌≡◌, ◌<◌, ◌+◌, ◌*◌, ◌%◌, ◌==◌, Bool, true, false, ◌&&◌, ◌||◌, not, nat_lt, nat_le, List, [], ◌∷◌, ◌++◌, length, map, filter, flat_map}
 use Rattle.std.specs.Int.{bit_at}
+use Rattle.std.specs.List.{range_with_len}
 use Rattle.gds_block.specs.Block.{version_of, reserved_of, level_of, used_of, tn_of}
 use Rattle.gds_bitmap.specs.State.{state_from, is_free}
 use Rattle.gds_bitmap.specs.Pairs.{pair_in}
@@ -58,15 +59,23 @@ kinds_of_pair present used pair = filter (pair_holds present used pair) pair_kin
 abbrev pub kinds_at : GroupMap → ℕ → List FaultKind
 kinds_at g k = kinds_of_pair (is_present g.header g.number k) (in_use g.used (map_number g.number + k)) (pair_of g.bytes k)
 
--- the faults: of the map, of one pair, of all pairs, and of both
+-- the faults of the map, and of one pair
 abbrev pub head_faults : GroupMap → List Fault
 head_faults g = map (fault_of (map_number g.number)) (head_kinds g)
 
 abbrev pub faults_at : GroupMap → ℕ → List Fault
 faults_at g k = map (fault_of (map_number g.number + k)) (kinds_at g k)
 
-unfoldable pub pair_faults : GroupMap → List Fault
-pair_faults g = flat_map (faults_at g) places
+-- those of n pairs from a place on, and of all pairs
+unfoldable pub faults_in : GroupMap → ℕ → ℕ → List Fault
+faults_in g first n = flat_map (faults_at g) (range_with_len first n)
+
+abbrev pub pair_faults : GroupMap → List Fault
+pair_faults g = faults_in g 0 512
+
+-- all faults of the group
+abbrev pub faults_of : GroupMap → List Fault
+faults_of g = head_faults g ++ pair_faults g
 
 -- Nothing is wrong with the four pairs of a byte, of blocks that are present. The bits of a number say which of them are
 -- in use.

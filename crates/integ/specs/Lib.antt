@@ -3,3 +3,4 @@ pub mod BlockSet
 pub mod GroupMap
 pub mod Standing
 pub mod GroupView
+pub mod Maps

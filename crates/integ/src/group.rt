@@ -1,11 +1,10 @@
-ghost use Rattle.std.specs.Prelude.{◌≡◌, ◌≤◌, ◌<◌, ◌++◌, ◌+◌, ◌-◌, ◌*◌, ◌==◌, ℕ, length, min, flat_map, slice_index, IfOk};
+ghost use Rattle.std.specs.Prelude.{◌≡◌, ◌≤◌, ◌<◌, ◌+◌, ◌-◌, ◌*◌, ◌==◌, ℕ, length, min, slice_index, IfOk};
 ghost use Rattle.std.specs.Int.{bit_at};
-ghost use Rattle.std.specs.List.{range_with_len};
 ghost use Rattle.std.specs.Option.{option_to_list};
 ghost use Rattle.gds_law.specs.Maps.{map_number};
 ghost use Rattle.gds_law.specs.Sink.{WasTold};
 ghost use Rattle.integ.specs.BlockSet.{has_block};
-ghost use Rattle.integ.specs.GroupMap.{in_use, free_count, head_faults, head_holds, head_kinds, faults_at, kinds_at, pair_faults};
+ghost use Rattle.integ.specs.GroupMap.{in_use, free_count, head_faults, head_holds, head_kinds, faults_in, faults_of, kinds_at, pair_faults};
 
 use crate::pairs::{are_right, pair_fault};
 use crate::telling::{tell, tell_standing};
@@ -43,9 +42,9 @@ impl Group<'_> {
     /// Tells the faults of the map, and then those of its pairs.
     pub(crate) fn tell_all<F: FaultSink>(&self, sink: &mut F) -> Result<GroupTold, SinkTrouble>
         ensures told { let g = map_of self.now in
-            WasTold F.listed F.failures sink.old sink.new (head_faults g ++ pair_faults g) result SinkTrouble.Failed }
+            WasTold F.listed F.failures sink.old sink.new (faults_of g) result SinkTrouble.Failed }
         ensures count { let g = map_of self.now in
-            IfOk result (λ told. told.faults ≡ length (head_faults g ++ pair_faults g)) }
+            IfOk result (λ told. told.faults ≡ length (faults_of g)) }
         ensures few { IfOk result (λ told. told.faults ≤ 1024) }
         ensures free { IfOk result (λ told. told.free ≡ free_count (map_of self.now)) }
         ensures within { IfOk result (λ told. told.free ≤ 512) }
@@ -125,9 +124,9 @@ impl Group<'_> {
     /// Tells what is wrong with the pairs of a block and the three behind it.
     fn tell_four<F: FaultSink>(&self, first: u32, sink: &mut F) -> Result<u64, SinkTrouble>
         requires { first + 4 ≤ 512 }
-        ensures told { let found = flat_map (faults_at (map_of self.now)) (range_with_len first 4) in
+        ensures told { let found = faults_in (map_of self.now) first 4 in
             WasTold F.listed F.failures sink.old sink.new found result SinkTrouble.Failed }
-        ensures count { let found = flat_map (faults_at (map_of self.now)) (range_with_len first 4) in
+        ensures count { let found = faults_in (map_of self.now) first 4 in
             IfOk result (λ count. count ≡ length found) }
         ensures few { IfOk result (λ count. count ≤ 4) }
     {

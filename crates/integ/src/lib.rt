@@ -3,10 +3,12 @@
 
 mod group;
 mod history;
+mod maps;
 mod pairs;
 mod raw_file;
 mod sinks;
 mod telling;
 
+pub use maps::map_faults;
 pub use raw_file::RawFile;
 pub use sinks::{CountSink, ListSink};
