@@ -5,3 +5,4 @@ pub mod StandingLemmas
 pub mod FourLemmas
 pub mod GroupLemmas
 pub mod TellLemmas
+pub mod MapLemmas

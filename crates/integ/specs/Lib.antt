@@ -4,3 +4,4 @@ pub mod GroupMap
 pub mod Standing
 pub mod GroupView
 pub mod Maps
+pub mod Header

@@ -2,6 +2,7 @@
 #![tactic(auto)]
 
 mod group;
+mod header;
 mod history;
 mod maps;
 mod pairs;

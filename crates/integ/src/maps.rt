@@ -1,4 +1,4 @@
-ghost use Rattle.std.specs.Prelude.{◌≡◌, ◌<◌, ◌≤◌, ◌++◌, ◌^◌, ℕ, None, length, IfOk, IfSome, IsErrOf};
+ghost use Rattle.std.specs.Prelude.{◌≡◌, ◌<◌, ◌≤◌, ◌++◌, ◌^◌, ℕ, None, length, IfOk, IsErrOf};
 ghost use Rattle.std.specs.Option.{ForSome};
 ghost use Rattle.host_model.specs.Failures.{Rose};
 ghost use Rattle.gds_header.specs.Kinds.{IsWithinLimits};
@@ -33,10 +33,10 @@ pub fn map_faults<U: UnitSource, F: FaultSink>(
 ) -> Result<u64, IntegError>
     requires limits { IsWithinLimits header.now }
     requires header { ForSome (U.image units.old) (HasHeader header.now) }
-    ensures told { IfSome (U.image units.old) (λ file. let due = map_faults file (in_use used.now) ++ count_faults file in
+    ensures told { ForSome (U.image units.old) (λ file. let due = map_faults file (in_use used.now) ++ count_faults file in
         Grew (F.listed sink.old) (F.listed sink.new) due result) }
-    ensures count { IfSome (U.image units.old) (λ file. let due = map_faults file (in_use used.now) ++ count_faults file in
-        IfOk result (λ n. n ≡ length due)) }
+    ensures count { IfOk result (λ n. ForSome (U.image units.old)
+        (λ file. n ≡ length (map_faults file (in_use used.now) ++ count_faults file))) }
     ensures few { IfOk result (λ n. n < 2 ^ 32) }
 
     // What stays, and what each refusal has for a cause.
@@ -68,10 +68,11 @@ fn tell_maps<U: UnitSource, F: FaultSink>(
     requires limits { IsWithinLimits header.now }
     requires header { ForSome (U.image units.old) (HasHeader header.now) }
     requires block { length block.old ≡ header.now.block_size }
-    ensures told { IfSome (U.image units.old) (λ file.
+    ensures told { ForSome (U.image units.old) (λ file.
         Grew (F.listed sink.old) (F.listed sink.new) (map_faults file (in_use used.now)) result) }
-    ensures count { IfSome (U.image units.old) (λ file. IfOk result (λ told. told.faults ≡ length (map_faults file (in_use used.now)))) }
-    ensures free { IfSome (U.image units.old) (λ file. IfOk result (λ told. told.free ≡ free_blocks file)) }
+    ensures count { IfOk result (λ told. ForSome (U.image units.old)
+        (λ file. told.faults ≡ length (map_faults file (in_use used.now)))) }
+    ensures free { IfOk result (λ told. ForSome (U.image units.old) (λ file. told.free ≡ free_blocks file)) }
     ensures few { IfOk result (λ told. told.faults < 2 ^ 31) }
     ensures image { U.image units.new ≡ U.image units.old }
     ensures read { U.was_read units.old units.new }
