@@ -9,4 +9,4 @@ test:
 	.ci/run
 
 install: build
-	install -D -m 755 crates/gds_cli/out/gds_cli $(DESTDIR)$(PREFIX)/bin/gds
+	install -D -m 755 crates/gds/out/gds $(DESTDIR)$(PREFIX)/bin/gds

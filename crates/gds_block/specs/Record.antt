@@ -1,5 +1,5 @@
 -- The records of a block. The bytes left from an offset on are those up to the used count.
-use Rattle.std.specs.Prelude.{ℕ, suc, zero, ◌≡◌, ◌≤◌, ◌+◌, Bool, ◌&&◌, ◌==◌, nat_le, IsTrue, if◌then◌else◌, List, [], ◌∷◌, length, take, drop, slice_range}
+use Rattle.std.specs.Prelude.{ℕ, suc, zero, ◌≡◌, ◌≤◌, ◌+◌, Bool, ◌&&◌, ◌==◌, nat_le, IsTrue, if◌then◌else◌, List, [], ◌∷◌, ◌++◌, length, take, drop, slice_range}
 use Rattle.gds_block.specs.Fields.{u16_at}
 use Rattle.gds_block.specs.Block.{level_of, used_of}
 
@@ -8,6 +8,10 @@ pub record Record : Type 0 where
   pub offset : ℕ
   pub count : ℕ
   pub body : List ℕ
+
+-- the bytes of a record behind a key in full: as many leading bytes of that key as the count says, and the body
+abbrev pub full_of : List ℕ → Record → List ℕ
+full_of previous r = take r.count previous ++ r.body
 
 -- the bytes from an offset up to the used count
 abbrev pub bytes_left : List ℕ → ℕ → List ℕ

@@ -16,6 +16,16 @@ pub struct RecordView<'a> {
     pub body: &'a [u8],
 }
 
+impl<'a> RecordView<'a> {
+    /// Where the record ends in its block.
+    pub fn end(self) -> u32
+        requires { self.offset + 4 + length self.body.now < 2 ^ 32 }
+        ensures { result ≡ self.entry.offset + 4 + length self.entry.body.now }
+    {
+        self.offset + 4 + self.body.len() as u32
+    }
+}
+
 /// The records of a block, in order, seen as the list of those that are left.
 #[derive(Drop)]
 pub struct Records<'a> {

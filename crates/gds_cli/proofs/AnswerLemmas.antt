@@ -8,14 +8,18 @@ use Rattle.gds_cli.specs.declared.status.Status.{Status}
 use Rattle.gds_cli.specs.Answer.{Reply, SaysFront, Answers, header_reply}
 
 -- what stays is a front of any text, of no bytes
-pub silent : (told later : Option Contents) (text : Contents → List ℕ) → later ≡ told → TellsOn told later (λ before after. SaysFront (text before) before after)
+pub silent : (told later : Option Contents) (text : Contents → List ℕ) → later ≡ told
+    → TellsOn told later (λ before after. SaysFront (text before) before after)
 silent None later text same = tt
 silent (Some c) later text same =
     let P : Option Contents → Type 0 = λ o. TellsOn (Some c) o (λ before after. SaysFront (text before) before after) in
     subst P (sym same) (0, ap (λ (said : List ℕ). record c { said = said }) (sym (append-nil c.said)))
 
 -- the kind that was found is that of the file that is told
-pub found : (told asked said : Option Contents) (kind : Option HeaderKind) (reply : Reply) (status : Status) → IfSome told (λ c. kind ≡ ending_kind c.db) → asked ≡ told → reply ≡ header_reply kind → TellsOn asked said (Answers reply status) → TellsOn told said (λ before after. Answers (header_reply (ending_kind before.db)) status before after)
+pub found : (told asked said : Option Contents) (kind : Option HeaderKind) (reply : Reply) (status : Status)
+    → IfSome told (λ c. kind ≡ ending_kind c.db) → asked ≡ told → reply ≡ header_reply kind
+    → TellsOn asked said (Answers reply status)
+    → TellsOn told said (λ before after. Answers (header_reply (ending_kind before.db)) status before after)
 found None asked said kind reply status is same due answered = tt
 found (Some c) asked said kind reply status is same due answered =
     let P : Option Contents → Type 0 = λ o. TellsOn o said (Answers reply status) in

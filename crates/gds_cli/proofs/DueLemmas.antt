@@ -25,17 +25,22 @@ one_extract stamp c r s p q =
     (λ (a : (m : Globals) × IsThinWith c.db c.images m × (r ≡ record { text = zwr m stamp; status = ended.Done })).
     ⊎_elim
     (λ (b : (m : Globals) × IsThinWith c.db c.images m × (s ≡ record { text = zwr m stamp; status = ended.Done })).
-    a.2 ∙ ap (λ (m : Globals). record { text = zwr m stamp; status = ended.Done }) (one_map c.db c.images a.0 b.0 a.1 b.1) ∙ sym b.2)
+    a.2
+    ∙ ap (λ (m : Globals). record { text = zwr m stamp; status = ended.Done })
+    (one_map c.db c.images a.0 b.0 a.1 b.1) ∙ sym b.2)
     (λ (b : ((m : Globals) → IsThinWith c.db c.images m → ⊥) × (s ≡ not_built)). absurd (b.0 a.0 a.1))
     q)
     (λ (a : ((m : Globals) → IsThinWith c.db c.images m → ⊥) × (r ≡ not_built)).
     ⊎_elim
-    (λ (b : (m : Globals) × IsThinWith c.db c.images m × (s ≡ record { text = zwr m stamp; status = ended.Done })). absurd (a.0 b.0 b.1))
+    (λ
+    (b : (m : Globals) × IsThinWith c.db c.images m × (s ≡ record { text = zwr m stamp; status = ended.Done })).
+    absurd (a.0 b.0 b.1))
     (λ (b : ((m : Globals) → IsThinWith c.db c.images m → ⊥) × (s ≡ not_built)). a.1 ∙ sym b.1)
     q)
     p
 
-pub one_due : (command : Result Command BadWords) (c : Contents) (r s : Reply) → Due command c r → Due command c s → r ≡ s
+pub one_due : (command : Result Command BadWords) (c : Contents) (r s : Reply) → Due command c r → Due command c s
+    → r ≡ s
 one_due (Err bad) c r s p q = p ∙ sym q
 one_due (Ok Version) c r s p q = p ∙ sym q
 one_due (Ok Integ) c r s p q = p ∙ sym q
@@ -47,7 +52,8 @@ some_due (Err bad) c none = none _ refl
 some_due (Ok Version) c none = none _ refl
 some_due (Ok Integ) c none = none _ refl
 some_due (Ok (Extract stamp)) c none =
-    none not_built (inr (λ m thin. none (record { text = zwr m stamp.items; status = ended.Done }) (inl (m, thin, refl)), refl))
+    none not_built
+    (inr (λ m thin. none (record { text = zwr m stamp.items; status = ended.Done }) (inl (m, thin, refl)), refl))
 
 -- ---- the reply that is due was said
 
@@ -59,10 +65,16 @@ some_and : {T : Type 0} (o : Option T) (A B : T → Type 0) → ((x : T) → A x
 some_and None A B so known = known
 some_and (Some x) A B so known = so x known
 
-ends_of : (due : Reply → Type 0) (reply : Reply) (status : Status) (before after : Contents) → due reply → ((r : Reply) → due r → r ≡ reply) → Answers reply status before after → Ends due status before after
+ends_of : (due : Reply → Type 0) (reply : Reply) (status : Status) (before after : Contents) → due reply
+    → ((r : Reply) → due r → r ≡ reply) → Answers reply status before after → Ends due status before after
 ends_of due reply status before after is only answered =
     match_both (is_break status) _ _ _ _
-    (λ (front : SaysFront reply.text before after). (take front.0 reply.text, front.1, λ (r : Reply) (d : due r). (front.0, ap (λ (q : Reply). take front.0 q.text) (sym (only r d)))))
+    (λ (front : SaysFront reply.text before after). (
+      take front.0 reply.text,
+      front.1,
+      λ (r : Reply) (d : due r).
+          (front.0, ap (λ (q : Reply). take front.0 q.text) (sym (only r d))),
+    ))
     (λ (whole : (status ≡ reply.status) × (after ≡ saying before reply.text)). (reply, is, whole.0, whole.1))
     answered
 
@@ -72,46 +84,71 @@ pub record IsDueAt (mid : Option Contents) (due : Reply → Type 0) (reply : Rep
   pub is : due reply
   pub only : (r : Reply) → due r → r ≡ reply
 
-pub goes_ends : (told mid now : Option Contents) (due : Contents → Reply → Type 0) (reply : Reply) (status : Status) → ForSome told (λ c. IsDueAt mid (due c) reply c) → TellsOn mid now (Answers reply status) → TellsOn told now (λ before after. Ends (due before) status before after)
+pub goes_ends : (told mid now : Option Contents) (due : Contents → Reply → Type 0) (reply : Reply) (status : Status)
+    → ForSome told (λ c. IsDueAt mid (due c) reply c) → TellsOn mid now (Answers reply status)
+    → TellsOn told now (λ before after. Ends (due before) status before after)
 goes_ends None mid now due reply status known answered = tt
 goes_ends (Some c) mid now due reply status known answered =
     let at = known c refl in
     let P : Option Contents → Type 0 = λ o. TellsOn o now (Answers reply status) in
-    some_and now (Answers reply status c) (λ d. Ends (due c) status c d) (λ d. ends_of (due c) reply status c d at.is at.only) (subst P at.same answered)
+    some_and now (Answers reply status c) (λ d. Ends (due c) status c d)
+    (λ d. ends_of (due c) reply status c d at.is at.only) (subst P at.same answered)
 
 -- the words are known, and the reply that is due for them was said
-pub goes_reply : (told now : Option Contents) (command known : Result Command BadWords) (reply : Reply) (status : Status) → command ≡ known → ((c : Contents) → Due known c reply) → TellsOn told now (Answers reply status) → TellsOn told now (λ before after. Ends (Due command before) status before after)
+pub goes_reply : (told now : Option Contents) (command known : Result Command BadWords) (reply : Reply)
+    (status : Status) → command ≡ known → ((c : Contents) → Due known c reply) → TellsOn told now (Answers reply status)
+    → TellsOn told now (λ before after. Ends (Due command before) status before after)
 goes_reply told now command known reply status is due answered =
-    let P : Result Command BadWords → Type 0 = λ k. TellsOn told now (λ before after. Ends (Due k before) status before after) in
-    subst P (sym is) (goes_ends told told now (Due known) reply status (λ c tells. record { same = tells; is = due c; only = λ r d. one_due known c r reply d (due c) }) answered)
+    let P : Result Command BadWords → Type 0 =
+    λ k. TellsOn told now (λ before after. Ends (Due k before) status before after) in
+    subst P (sym is)
+    (goes_ends told told now (Due known) reply status
+    (λ c tells. record { same = tells; is = due c; only = λ r d. one_due known c r reply d (due c) }) answered)
 
-pub goes_extract : (told now : Option Contents) (command : Result Command BadWords) (stamp : ArrayVec ℕ) (text : List ℕ) (status : Status) → command ≡ Ok (Extract stamp) → text ≡ stamp.items → TellsOn told now (λ before after. Ends (ExtractDue text before) status before after) → TellsOn told now (λ before after. Ends (Due command before) status before after)
+pub goes_extract : (told now : Option Contents) (command : Result Command BadWords) (stamp : ArrayVec ℕ) (text : List ℕ)
+    (status : Status) → command ≡ Ok (Extract stamp) → text ≡ stamp.items
+    → TellsOn told now (λ before after. Ends (ExtractDue text before) status before after)
+    → TellsOn told now (λ before after. Ends (Due command before) status before after)
 goes_extract told now command stamp text status is same ends =
-    let P : Result Command BadWords → Type 0 = λ k. TellsOn told now (λ before after. Ends (Due k before) status before after) in
+    let P : Result Command BadWords → Type 0 =
+    λ k. TellsOn told now (λ before after. Ends (Due k before) status before after) in
     let Q : List ℕ → Type 0 = λ t. TellsOn told now (λ before after. Ends (ExtractDue t before) status before after) in
     subst P (sym is) (subst Q same ends)
 
 -- nothing was said
-pub goes_silent : (told : Option Contents) (due : Contents → Reply → Type 0) → TellsOn told told (λ before after. Ends (due before) ended.Memory before after)
+pub goes_silent : (told : Option Contents) (due : Contents → Reply → Type 0)
+    → TellsOn told told (λ before after. Ends (due before) ended.Memory before after)
 goes_silent None due = tt
-goes_silent (Some c) due = ([], ap (λ (said : List ℕ). record c { said = said }) (sym (append-nil c.said)), λ (reply : Reply) (d : due c reply). (0, refl))
+goes_silent (Some c) due = (
+  [],
+  ap (λ (said : List ℕ). record c { said = said }) (sym (append-nil c.said)),
+  λ (reply : Reply)
+      (d : due c reply). (0, refl),
+)
 
 pub goes_untold : (told now : Option Contents) (R : Contents → Contents → Type 0) → told ≡ None → TellsOn told now R
 goes_untold told now R none = let P : Option Contents → Type 0 = λ o. TellsOn o now R in subst P (sym none) tt
 
 -- ---- the ends of an extract
 
-goes_on : (told now : Option Contents) (R : Contents → Contents → Type 0) → ForSome told (λ c. (d : Contents) × (now ≡ Some d) × R c d) → TellsOn told now R
+goes_on : (told now : Option Contents) (R : Contents → Contents → Type 0)
+    → ForSome told (λ c. (d : Contents) × (now ≡ Some d) × R c d) → TellsOn told now R
 goes_on None now R known = tt
-goes_on (Some c) now R known = let p = known c refl in let P : Option Contents → Type 0 = λ o. IsSomeAnd o (R c) in subst P (sym p.1) p.2
+goes_on (Some c) now R known =
+    let p = known c refl in let P : Option Contents → Type 0 = λ o. IsSomeAnd o (R c) in subst P (sym p.1) p.2
 
-pub extract_done : (told now : Option Contents) (stamp : List ℕ) → ForSome told (λ c. SaysThin stamp c true now) → TellsOn told now (λ before after. Ends (ExtractDue stamp before) ended.Done before after)
+pub extract_done : (told now : Option Contents) (stamp : List ℕ) → ForSome told (λ c. SaysThin stamp c true now)
+    → TellsOn told now (λ before after. Ends (ExtractDue stamp before) ended.Done before after)
 extract_done told now stamp known =
     goes_on told now (λ before after. Ends (ExtractDue stamp before) ended.Done before after) (λ c tells.
-    let p = known c tells in
-    (saying c (zwr p.0 stamp), p.2, (record { text = zwr p.0 stamp; status = ended.Done }, inl (p.0, p.1, refl), refl, refl)))
+    let p = known c tells in (
+      saying c (zwr p.0 stamp),
+      p.2,
+      (record { text = zwr p.0 stamp; status = ended.Done }, inl (p.0, p.1, refl), refl, refl),
+    ))
 
-pub extract_other : (told mid : Option Contents) (stamp : List ℕ) → ForSome told (λ c. SaysThin stamp c false mid) → ForSome told (λ c. IsDueAt mid (ExtractDue stamp c) not_built c)
+pub extract_other : (told mid : Option Contents) (stamp : List ℕ) → ForSome told (λ c. SaysThin stamp c false mid)
+    → ForSome told (λ c. IsDueAt mid (ExtractDue stamp c) not_built c)
 extract_other told mid stamp known c tells =
     let p = known c tells in
     record {
@@ -119,23 +156,31 @@ extract_other told mid stamp known c tells =
       is = inr (p.0, refl);
       only = λ r due.
           ⊎_elim
-          (λ (b : (m : Globals) × IsThinWith c.db c.images m × (r ≡ record { text = zwr m stamp; status = ended.Done })). absurd (p.0 b.0 b.1))
+          (λ
+          (b : (m : Globals) × IsThinWith c.db c.images m
+          × (r ≡ record { text = zwr m stamp; status = ended.Done })). absurd (p.0 b.0 b.1))
           (λ (b : ((m : Globals) → IsThinWith c.db c.images m → ⊥) × (r ≡ not_built)). b.1)
           due;
     }
 
-pub extract_breaks : (told now : Option Contents) (stamp : List ℕ) (status : Status) → is_break status ≡ true → ForSome told (λ c. BreaksOff c (ExtractDue stamp c) now) → TellsOn told now (λ before after. Ends (ExtractDue stamp before) status before after)
+pub extract_breaks : (told now : Option Contents) (stamp : List ℕ) (status : Status) → is_break status ≡ true
+    → ForSome told (λ c. BreaksOff c (ExtractDue stamp c) now)
+    → TellsOn told now (λ before after. Ends (ExtractDue stamp before) status before after)
 extract_breaks told now stamp status is known =
     goes_on told now (λ before after. Ends (ExtractDue stamp before) status before after) (λ c tells.
     let b = known c tells in
     let P : Bool → Type 0 = λ t. MatchBool t
-    ((said : List ℕ) × (saying c b.said ≡ saying c said) × ((reply : Reply) → ExtractDue stamp c reply → (n : ℕ) × (said ≡ take n reply.text)))
+    ((said : List ℕ) × (saying c b.said ≡ saying c said)
+    × ((reply : Reply) → ExtractDue stamp c reply → (n : ℕ) × (said ≡ take n reply.text)))
     ((reply : Reply) × ExtractDue stamp c reply × (status ≡ reply.status) × (saying c b.said ≡ saying c reply.text)) in
     (saying c b.said, b.told, subst P (sym is) (b.said, refl, b.front)))
 
 -- ---- where no fault came
 
-ends_whole : (due : Reply → Type 0) (status : Status) (before after : Contents) → Ends due status before after → (status ≡ ended.ReadFault → ⊥) → (status ≡ ended.SayFault → ⊥) → (status ≡ ended.Memory) ⊎ ((reply : Reply) × due reply × (status ≡ reply.status) × (Some after ≡ Some (saying before reply.text)))
+ends_whole : (due : Reply → Type 0) (status : Status) (before after : Contents) → Ends due status before after
+    → (status ≡ ended.ReadFault → ⊥) → (status ≡ ended.SayFault → ⊥)
+    → (status ≡ ended.Memory)
+    ⊎ ((reply : Reply) × due reply × (status ≡ reply.status) × (Some after ≡ Some (saying before reply.text)))
 ends_whole due ended.Memory before after e read say = inl refl
 ends_whole due ended.ReadFault before after e read say = absurd (read refl)
 ends_whole due ended.SayFault before after e read say = absurd (say refl)

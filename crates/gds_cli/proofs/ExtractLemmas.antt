@@ -19,16 +19,25 @@ use Rattle.gds_cli.proofs.SayingLemmas.{SaidFront, said_none, texts_of_lists}
 use Rattle.gds_cli.proofs.DirectoryLemmas.{leaves_at}
 
 -- the test's parts are thin files
-pub finds : (d b : List ℕ) (h : Header) (leaves : List ℕ) → IsHeaderOf h d → IsTrue (starts_with nat_eq b (codes "GDSBIMG1" ++ 0 ∷ [])) → AreLeaves d leaves → FindsThin d b h leaves
+pub finds : (d b : List ℕ) (h : Header) (leaves : List ℕ) → IsHeaderOf h d
+    → IsTrue (starts_with nat_eq b (codes "GDSBIMG1" ++ 0 ∷ [])) → AreLeaves d leaves → FindsThin d b h leaves
 finds d b h leaves head closed found = record {
   directory = found.directory;
   globals = found.globals;
   header = head;
-  thin = record { sound = head.sound; closed = closed; star = found.star; leaf = found.leaf; each = found.each; distinct = found.distinct };
+  thin = record {
+    sound = head.sound;
+    closed = closed;
+    star = found.star;
+    leaf = found.leaf;
+    each = found.each;
+    distinct = found.distinct;
+  };
   numbers = found.numbers;
 }
 
-pub not_closed : (d b : List ℕ) (m : Globals) → starts_with nat_eq b (codes "GDSBIMG1" ++ 0 ∷ []) ≡ false → IsThinWith d b m → ⊥
+pub not_closed : (d b : List ℕ) (m : Globals) → starts_with nat_eq b (codes "GDSBIMG1" ++ 0 ∷ []) ≡ false
+    → IsThinWith d b m → ⊥
 not_closed d b m open_gate thin = let closed = thin.thin.closed in cc
 
 module _ (d b : List ℕ) (h : Header) (leaves : List ℕ) (found : FindsThin d b h leaves) where
@@ -40,7 +49,8 @@ module _ (d b : List ℕ) (h : Header) (leaves : List ℕ) (found : FindsThin d 
   unfolding the_map
   is_thin = thin_with d b found.directory found.globals found.thin
 
-  pub map_text : (m : Globals) (stamp : List ℕ) → IsThinWith d b m → zwr m stamp ≡ head_lines stamp (codes "ZWR") ++ flat_map (flat_map zwr_node) found.globals
+  pub map_text : (m : Globals) (stamp : List ℕ) → IsThinWith d b m
+      → zwr m stamp ≡ head_lines stamp (codes "ZWR") ++ flat_map (flat_map zwr_node) found.globals
   unfolding zwr the_map
   map_text m stamp thin =
       let same : m ≡ the_map = one_map d b m the_map thin is_thin in
@@ -50,26 +60,38 @@ module _ (d b : List ℕ) (h : Header) (leaves : List ℕ) (found : FindsThin d 
 
   pub leaves_here : AllZip (IsLeafAt h d) leaves found.globals
   leaves_here =
-      subst (λ (ns : List ℕ). AllZip (IsLeafAt h d) ns found.globals) (sym found.numbers) (leaves_at h d found.directory found.globals found.header found.thin.each)
+      subst (λ (ns : List ℕ). AllZip (IsLeafAt h d) ns found.globals) (sym found.numbers)
+      (leaves_at h d found.directory found.globals found.header found.thin.each)
 
   -- a front of what was said is one of the reply
-  due_text : (stamp images said : List ℕ) (reply : Reply) → ExtractDue stamp (record { db = d; images = b; said = said }) reply → reply.text ≡ head_lines stamp (codes "ZWR") ++ flat_map (flat_map zwr_node) found.globals
+  due_text : (stamp images said : List ℕ) (reply : Reply)
+      → ExtractDue stamp (record { db = d; images = b; said = said }) reply
+      → reply.text ≡ head_lines stamp (codes "ZWR") ++ flat_map (flat_map zwr_node) found.globals
   due_text stamp images said reply due =
       ⊎_elim
-      (λ (p : (m : Globals) × IsThinWith d b m × (reply ≡ record { text = zwr m stamp; status = ended.Done })). ap (λ (r : Reply). r.text) p.2 ∙ map_text p.0 stamp p.1)
+      (λ (p : (m : Globals) × IsThinWith d b m × (reply ≡ record { text = zwr m stamp; status = ended.Done })). ap
+      (λ (r : Reply). r.text) p.2 ∙ map_text p.0 stamp p.1)
       (λ (p : ((m : Globals) → IsThinWith d b m → ⊥) × (reply ≡ not_built)). absurd (p.0 the_map is_thin))
       due
 
-pub breaks_off : (stamp : List ℕ) (h : Header) (leaves : List ℕ) (c : Contents) (now : Option Contents) (found : FindsThin c.db c.images h leaves) → SaidFront c (head_lines stamp (codes "ZWR") ++ flat_map (flat_map zwr_node) found.globals) now → BreaksOff c (ExtractDue stamp c) now
+pub breaks_off : (stamp : List ℕ) (h : Header) (leaves : List ℕ) (c : Contents) (now : Option Contents)
+    (found : FindsThin c.db c.images h leaves)
+    → SaidFront c (head_lines stamp (codes "ZWR") ++ flat_map (flat_map zwr_node) found.globals) now
+    → BreaksOff c (ExtractDue stamp c) now
 breaks_off stamp h leaves c now found front = record {
   said = take front.0 (head_lines stamp (codes "ZWR") ++ flat_map (flat_map zwr_node) found.globals);
   told = front.1;
-  front = λ reply due. (front.0, ap (take front.0) (sym (due_text c.db c.images h leaves found stamp c.images c.said reply due)));
+  front =
+      λ reply due.
+      (front.0, ap (take front.0) (sym (due_text c.db c.images h leaves found stamp c.images c.said reply due)));
 }
 
 -- nothing was said yet
-pub breaks_before : (stamp : List ℕ) (c : Contents) (now : Option Contents) → now ≡ Some c → BreaksOff c (ExtractDue stamp c) now
+pub breaks_before : (stamp : List ℕ) (c : Contents) (now : Option Contents) → now ≡ Some c
+    → BreaksOff c (ExtractDue stamp c) now
 breaks_before stamp c now same = record { said = []; told = said_none c now same; front = λ reply due. (0, refl) }
 
-pub ends_err : {E : Type 0} (stamp : List ℕ) (c : Contents) (r : Result Bool E) (e : E) (now : Option Contents) → r ≡ Err e → BreaksOff c (ExtractDue stamp c) now → ExtractEnds stamp c r now
-ends_err {E} stamp c r e now is breaks = let P : Result Bool E → Type 0 = λ x. ExtractEnds stamp c x now in subst P (sym is) breaks
+pub ends_err : {E : Type 0} (stamp : List ℕ) (c : Contents) (r : Result Bool E) (e : E) (now : Option Contents)
+    → r ≡ Err e → BreaksOff c (ExtractDue stamp c) now → ExtractEnds stamp c r now
+ends_err {E} stamp c r e now is breaks =
+    let P : Result Bool E → Type 0 = λ x. ExtractEnds stamp c x now in subst P (sym is) breaks

@@ -8,7 +8,8 @@ use Rattle.gds_header.specs.declared.kind.HeaderKind.TheVariants.{ShortHeader}
 use Rattle.gds_header.specs.Kinds.{ending_kind}
 use Rattle.gds_header.proofs.EndingLemmas.{ending_kind-short}
 
-pub short_file : (told : Option Contents) (n : ℕ) → IfSome told (λ c. n ≡ length (file_of c Db)) → n < 8192 → IfSome told (λ c. Some ShortHeader ≡ ending_kind c.db)
+pub short_file : (told : Option Contents) (n : ℕ) → IfSome told (λ c. n ≡ length (file_of c Db)) → n < 8192
+    → IfSome told (λ c. Some ShortHeader ≡ ending_kind c.db)
 short_file None n known short = tt
 short_file (Some c) n known short = sym (ending_kind-short c.db (omega arith))
 
@@ -17,17 +18,27 @@ pub record Begins (bytes : List ℕ) (n : ℕ) (file : List ℕ) : Type 0 where
   pub front : take 8192 file ≡ bytes
   pub count : n ≡ length file
 
-begins : (n count : ℕ) (old bytes file : List ℕ) → n ≡ length file → length old ≡ 8192 → length bytes ≡ 8192 → 8192 ≤ count → Reads file 0 old bytes count → Begins bytes n file
+begins : (n count : ℕ) (old bytes file : List ℕ) → n ≡ length file → length old ≡ 8192 → length bytes ≡ 8192
+    → 8192 ≤ count → Reads file 0 old bytes count → Begins bytes n file
 begins n count old bytes file long room size whole given =
     let all : count ≡ 8192 = omega (arith, given.count) in
-    record { front = sym (sym (take_all count bytes (omega arith)) ∙ given.bytes ∙ ap (λ k. take k file) all); count = long }
+    record {
+      front = sym (sym (take_all count bytes (omega arith)) ∙ given.bytes ∙ ap (λ k. take k file) all);
+      count = long;
+    }
 
-pub begins_told : (told read : Option Contents) (n count : ℕ) (old bytes : List ℕ) → IfSome told (λ c. n ≡ length (file_of c Db)) → read ≡ told → length old ≡ 8192 → length bytes ≡ 8192 → 8192 ≤ count → IfSome read (λ c. Reads (file_of c Db) 0 old bytes count) → IfSome told (λ c. Begins bytes n c.db)
+pub begins_told : (told read : Option Contents) (n count : ℕ) (old bytes : List ℕ)
+    → IfSome told (λ c. n ≡ length (file_of c Db)) → read ≡ told → length old ≡ 8192 → length bytes ≡ 8192
+    → 8192 ≤ count → IfSome read (λ c. Reads (file_of c Db) 0 old bytes count) → IfSome told (λ c. Begins bytes n c.db)
 begins_told None read n count old bytes long same room size whole given = tt
 begins_told (Some c) read n count old bytes long same room size whole given =
-    begins n count old bytes c.db long room size whole (let P : Option Contents → Type 0 = λ r. IfSome r (λ d. Reads (file_of d Db) 0 old bytes count) in subst P same given)
+    begins n count old bytes c.db long room size whole
+    (let P : Option Contents
+    → Type 0 = λ r. IfSome r (λ d. Reads (file_of d Db) 0 old bytes count) in subst P same given)
 
 -- what follows for the file that is told
-pub decided : (told : Option Contents) (bytes : List ℕ) (n : ℕ) (kind : Option HeaderKind) → IfSome told (λ c. Begins bytes n c.db) → ((file : List ℕ) → Begins bytes n file → ending_kind file ≡ kind) → IfSome told (λ c. kind ≡ ending_kind c.db)
+pub decided : (told : Option Contents) (bytes : List ℕ) (n : ℕ) (kind : Option HeaderKind)
+    → IfSome told (λ c. Begins bytes n c.db) → ((file : List ℕ) → Begins bytes n file → ending_kind file ≡ kind)
+    → IfSome told (λ c. kind ≡ ending_kind c.db)
 decided None bytes n kind begun ends = tt
 decided (Some c) bytes n kind begun ends = sym (ends c.db begun)

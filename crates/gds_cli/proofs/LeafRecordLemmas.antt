@@ -14,7 +14,7 @@ use Rattle.m_key.specs.KeyEnd.{end_in, zero_after, shared}
 use Rattle.m_key.proofs.KeyEndLemmas.{shared-le, take-shared, end_in-append_open, end_in-take_less}
 use Rattle.m_key.proofs.ZeroLemmas.{NoZero, cmp-prefix}
 use Rattle.m_key.proofs.KeyLemmas.{Right, key-is, ended-more, NoZero-subscript, NoZero-name, begun}
-use Rattle.m_key.proofs.Numbers.{numbers}
+use Rattle.m_key.proofs.NumberLemmas.{numbers}
 use Rattle.gds_block.specs.Record.{Record}
 use Rattle.gds_cli.specs.Leaf.{IsSplit}
 
@@ -25,19 +25,23 @@ step true b m bytes h e = let t : (b == 0) ≡ false = ne_eqb b 0 (λ f. omega (
 step false b m bytes h e = let t : (b == 0) ≡ false = ne_eqb b 0 (λ f. omega (arith, f)) in rw (t, e) refl
 
 -- bytes without a zero, ended by one
-part : (z : Bool) (xs rest : List ℕ) (m : ℕ) → NoZero xs → 0 < length xs → end_in true rest ≡ Some m → end_in z (xs ++ 0 ∷ rest) ≡ Some (length xs + 1 + m)
+part : (z : Bool) (xs rest : List ℕ) (m : ℕ) → NoZero xs → 0 < length xs → end_in true rest ≡ Some m
+    → end_in z (xs ++ 0 ∷ rest) ≡ Some (length xs + 1 + m)
 part z [] rest m n h e = absurd (omega arith)
 part z (x ∷ []) rest m n h e = step z x (suc m) (0 ∷ rest) n.0 (rw e refl) ∙ ap Some (omega arith)
 part z (x ∷ y ∷ xs) rest m n h e =
-    step z x (length (y ∷ xs) + 1 + m) ((y ∷ xs) ++ 0 ∷ rest) n.0 (part false (y ∷ xs) rest m n.1 (omega arith) e) ∙ ap Some (omega arith)
+    step z x (length (y ∷ xs) + 1 + m) ((y ∷ xs) ++ 0 ∷ rest) n.0 (part false (y ∷ xs) rest m n.1 (omega arith) e)
+    ∙ ap Some (omega arith)
 
-parts : (ss : List NodeSubscript) (rest : List ℕ) → Right ss → end_in true (flat_map ended ss ++ 0 ∷ rest) ≡ Some (length (flat_map ended ss) + 1)
+parts : (ss : List NodeSubscript) (rest : List ℕ) → Right ss
+    → end_in true (flat_map ended ss ++ 0 ∷ rest) ≡ Some (length (flat_map ended ss) + 1)
 parts [] rest h = refl
 parts (s ∷ ss) rest h =
     let b = begun numbers s h.0 in
     let some : 0 < length (subscript_bytes s) = omega (arith, ap length b.is) in
     ap (end_in true) (ended-more s ss (0 ∷ rest))
-    ∙ part true (subscript_bytes s) (flat_map ended ss ++ 0 ∷ rest) (length (flat_map ended ss) + 1) (NoZero-subscript numbers s h.0) some (parts ss rest h.1)
+    ∙ part true (subscript_bytes s) (flat_map ended ss ++ 0 ∷ rest) (length (flat_map ended ss) + 1)
+    (NoZero-subscript numbers s h.0) some (parts ss rest h.1)
     ∙ ap Some (omega (arith, length-append (ended s) (flat_map ended ss), length-append (subscript_bytes s) (0 ∷ [])))
 
 word_some : (bs : List ℕ) → is_word bs ≡ true → 0 < length bs
@@ -49,11 +53,13 @@ pub one_end : (n : Node) (rest : List ℕ) → IsNode n → end_in false (key_by
 one_end n rest p =
     let subs = flat_map ended n.subscripts in
     let bytes : key_bytes n ++ rest ≡ n.name ++ 0 ∷ (subs ++ 0 ∷ rest) =
-    ap (λ l. l ++ rest) (key-is n) ∙ append_assoc n.name (0 ∷ (subs ++ 0 ∷ [])) rest ∙ ap (λ l. n.name ++ 0 ∷ l) (append_assoc subs (0 ∷ []) rest) in
+    ap (λ l. l ++ rest) (key-is n) ∙ append_assoc n.name (0 ∷ (subs ++ 0 ∷ [])) rest
+    ∙ ap (λ l. n.name ++ 0 ∷ l) (append_assoc subs (0 ∷ []) rest) in
     let long : length (key_bytes n) ≡ length n.name + 1 + (length subs + 1) =
     omega (arith, ap length (key-is n), length-append n.name (0 ∷ (subs ++ 0 ∷ [])), length-append subs (0 ∷ [])) in
     ap (end_in false) bytes
-    ∙ part false n.name (subs ++ 0 ∷ rest) (length subs + 1) (NoZero-name numbers n p) (word_some n.name p.name.word) (parts n.subscripts rest (recursion_from_All IsSubscript n.subscripts p.subscripts))
+    ∙ part false n.name (subs ++ 0 ∷ rest) (length subs + 1) (NoZero-name numbers n p) (word_some n.name p.name.word)
+    (parts n.subscripts rest (recursion_from_All IsSubscript n.subscripts p.subscripts))
     ∙ ap Some (sym long)
 
 -- ---- the next key
@@ -72,7 +78,8 @@ record Next (x y : List ℕ) : Type 0 where
   none : shared x y ≡ 0
   less : is_lt (slice_cmp nat_cmp x y) ≡ true
 
-heads : (x y n : ℕ) (o : Ordering) → nat_lt x y ≡ true → (nat_eq x y ≡ false) × (is_lt (ordering_then (nat_cmp x y) o) ≡ true)
+heads : (x y n : ℕ) (o : Ordering) → nat_lt x y ≡ true
+    → (nat_eq x y ≡ false) × (is_lt (ordering_then (nat_cmp x y) o) ≡ true)
 heads x y n o h = (grind (arith, nat_tests), grind (arith, nat_tests))
 
 first_next : (x y : List ℕ) → first_less x y ≡ true → Next x y
@@ -87,7 +94,8 @@ next_first [] (y ∷ ys) h = refl
 next_first (x ∷ xs) (y ∷ ys) h = grind (arith, nat_tests, h.none, h.less)
 
 -- Two lists that share their first elements, which are no more than either has.
-module _ (p k : List ℕ) (count : ℕ) (front : take count p ≡ take count k) (within_p : count ≤ length p) (within_k : count ≤ length k) where
+module _ (p k : List ℕ) (count : ℕ) (front : take count p ≡ take count k) (within_p : count ≤ length p)
+    (within_k : count ≤ length k) where
   apart : (take count p ++ drop count p ≡ p) × (take count p ++ drop count k ≡ k)
   apart = (take-append-drop count p, ap (λ l. l ++ drop count k) front ∙ take-append-drop count k)
 
@@ -98,29 +106,40 @@ module _ (p k : List ℕ) (count : ℕ) (front : take count p ≡ take count k) 
       ∙ ap (λ n. n + shared (drop count p) (drop count k)) (omega (arith, length-take count p))
 
   order_of : slice_cmp nat_cmp p k ≡ slice_cmp nat_cmp (drop count p) (drop count k)
-  order_of = (λ i. slice_cmp nat_cmp (sym apart.0 i) (sym apart.1 i)) ∙ cmp-prefix (take count p) (drop count p) (drop count k)
+  order_of =
+      (λ i. slice_cmp nat_cmp (sym apart.0 i) (sym apart.1 i)) ∙ cmp-prefix (take count p) (drop count p) (drop count k)
 
-  forth : first_less (drop count p) (drop count k) ≡ true → (count ≡ shared p k) × (is_lt (slice_cmp nat_cmp p k) ≡ true)
-  forth h = let n = first_next (drop count p) (drop count k) h in (omega (arith, shared_len, n.none), ap is_lt order_of ∙ n.less)
+  forth : first_less (drop count p) (drop count k) ≡ true
+      → (count ≡ shared p k) × (is_lt (slice_cmp nat_cmp p k) ≡ true)
+  forth h =
+      let n =
+      first_next (drop count p) (drop count k) h in (omega (arith, shared_len, n.none), ap is_lt order_of ∙ n.less)
 
   back : (count ≡ shared p k) × (is_lt (slice_cmp nat_cmp p k) ≡ true) → first_less (drop count p) (drop count k) ≡ true
-  back (e, h) = next_first (drop count p) (drop count k) (record { none = omega (arith, shared_len, e); less = ap is_lt (sym order_of) ∙ h })
+  back (e, h) =
+      next_first (drop count p) (drop count k)
+      (record { none = omega (arith, shared_len, e); less = ap is_lt (sym order_of) ∙ h })
 
   -- the test of the first elements behind the shared ones
-  tested : (b : Bool) → first_less (drop count p) (drop count k) ≡ b → (b ≡ true) ↔ ((count ≡ shared p k) × (is_lt (slice_cmp nat_cmp p k) ≡ true))
+  tested : (b : Bool) → first_less (drop count p) (drop count k) ≡ b
+      → (b ≡ true) ↔ ((count ≡ shared p k) × (is_lt (slice_cmp nat_cmp p k) ≡ true))
   tested b e = (λ h. forth (e ∙ h), λ h. sym e ∙ back h)
 
-  pub next_at_end : (b : Bool) → b ≡ true → count ≡ length p → count < length k → (b ≡ true) ↔ ((count ≡ shared p k) × (is_lt (slice_cmp nat_cmp p k) ≡ true))
+  pub next_at_end : (b : Bool) → b ≡ true → count ≡ length p → count < length k
+      → (b ≡ true) ↔ ((count ≡ shared p k) × (is_lt (slice_cmp nat_cmp p k) ≡ true))
   next_at_end b t e h = tested b (ap₂ first_less (drop_all count p (omega arith)) (drop-cons k count 0 h) ∙ sym t)
 
-  pub next_past : (b : Bool) → b ≡ false → length k ≤ count → (b ≡ true) ↔ ((count ≡ shared p k) × (is_lt (slice_cmp nat_cmp p k) ≡ true))
+  pub next_past : (b : Bool) → b ≡ false → length k ≤ count
+      → (b ≡ true) ↔ ((count ≡ shared p k) × (is_lt (slice_cmp nat_cmp p k) ≡ true))
   next_past b f h = tested b (ap (first_less (drop count p)) (drop_all count k h) ∙ never (drop count p) ∙ sym f)
     where
       never : (x : List ℕ) → first_less x [] ≡ false
       never [] = refl
       never (x ∷ xs) = refl
 
-  pub next_apart : count < length p → count < length k → (nat_lt (get_or p count 0) (get_or k count 0) ≡ true) ↔ ((count ≡ shared p k) × (is_lt (slice_cmp nat_cmp p k) ≡ true))
+  pub next_apart : count < length p → count < length k
+      → (nat_lt (get_or p count 0) (get_or k count 0) ≡ true) ↔
+      ((count ≡ shared p k) × (is_lt (slice_cmp nat_cmp p k) ≡ true))
   next_apart h g = tested _ (ap₂ first_less (drop-cons p count 0 h) (drop-cons k count 0 g))
 
 -- a key shares fewer bytes with a greater one than that has
@@ -137,11 +156,13 @@ pub record Known (previous : List ℕ) (r : Record) (key : List ℕ) (end : ℕ)
   pub long : r.count + end ≡ length key
   pub bytes : key ≡ take r.count previous ++ take end r.body
 
-some_at : (o : Option ℕ) (front whole : ℕ) → option_map (λ n. front + n) o ≡ Some whole → (end : ℕ) × (o ≡ Some end) × (front + end ≡ whole)
+some_at : (o : Option ℕ) (front whole : ℕ) → option_map (λ n. front + n) o ≡ Some whole
+    → (end : ℕ) × (o ≡ Some end) × (front + end ≡ whole)
 some_at None front whole e = absurd (cc)
 some_at (Some end) front whole e = (end, refl, cc)
 
-module _ (most : ℕ) (previous : List ℕ) (r : Record) (n : Node) (value : List ℕ) (node : IsNode n) (s : IsSplit most previous r (key_bytes n) value) where
+module _ (most : ℕ) (previous : List ℕ) (r : Record) (n : Node) (value : List ℕ) (node : IsNode n)
+    (s : IsSplit most previous r (key_bytes n) value) where
   long_front : length (take r.count previous) ≡ r.count
   long_front = omega (arith, s.exact, (shared-le previous (key_bytes n)).0, length-take r.count previous)
 
@@ -150,19 +171,23 @@ module _ (most : ℕ) (previous : List ℕ) (r : Record) (n : Node) (value : Lis
 
   same_front : take r.count previous ≡ take r.count (key_bytes n)
   same_front =
-      ap (λ m. take m previous) s.exact ∙ take-shared previous (key_bytes n) ∙ ap (λ m. take m (key_bytes n)) (sym s.exact)
+      ap (λ m. take m previous) s.exact ∙ take-shared previous (key_bytes n)
+      ∙ ap (λ m. take m (key_bytes n)) (sym s.exact)
 
   key_ends : end_in false (key_bytes n) ≡ Some (length (key_bytes n))
   key_ends = ap (end_in false) (sym (append-nil (key_bytes n))) ∙ one_end n [] node
 
   open_front : end_in false (take r.count previous) ≡ None
-  open_front = ap (end_in false) same_front ∙ end_in-take_less (key_bytes n) false (length (key_bytes n)) r.count key_ends shorter
+  open_front =
+      ap (end_in false) same_front
+      ∙ end_in-take_less (key_bytes n) false (length (key_bytes n)) r.count key_ends shorter
 
   -- where the key ends in the body
   ends : (end : ℕ) × (end_in (zero_after false (take r.count previous)) r.body ≡ Some end)
       × (length (take r.count previous) + end ≡ length (key_bytes n))
   ends =
-      some_at (end_in (zero_after false (take r.count previous)) r.body) (length (take r.count previous)) (length (key_bytes n))
+      some_at (end_in (zero_after false (take r.count previous)) r.body) (length (take r.count previous))
+      (length (key_bytes n))
       (sym (end_in-append_open (take r.count previous) r.body false open_front)
       ∙ ap (end_in false) s.bytes ∙ one_end n value node)
 
@@ -171,7 +196,8 @@ module _ (most : ℕ) (previous : List ℕ) (r : Record) (n : Node) (value : Lis
       let both : None ≡ Some ends.0 = e ∙ ends.1 in
       absurd (cc)
 
-  pub known : (end : ℕ) → Some end ≡ end_in (zero_after false (take r.count previous)) r.body → Known previous r (key_bytes n) end
+  pub known : (end : ℕ) → Some end ≡ end_in (zero_after false (take r.count previous)) r.body
+      → Known previous r (key_bytes n) end
   known end e =
       let both : Some end ≡ Some ends.0 = e ∙ ends.1 in
       let same : end ≡ ends.0 = cc in
@@ -185,11 +211,13 @@ module _ (most : ℕ) (previous : List ℕ) (r : Record) (n : Node) (value : Lis
             ∙ take-append-add (take r.count previous) r.body end;
       }
 
-pub within_previous : (most : ℕ) (previous key value : List ℕ) (r : Record) → IsSplit most previous r key value → r.count ≤ length previous
+pub within_previous : (most : ℕ) (previous key value : List ℕ) (r : Record) → IsSplit most previous r key value
+    → r.count ≤ length previous
 within_previous most previous key value r s = omega (arith, s.exact, (shared-le previous key).0)
 
 pub not_next : (passed : Bool) (count : ℕ) (previous key other : List ℕ)
     → (passed ≡ true) ↔ ((count ≡ shared previous key) × (is_lt (slice_cmp nat_cmp previous key) ≡ true))
     → passed ≡ false → key ≡ other → count ≡ shared previous other → is_lt (slice_cmp nat_cmp previous other) ≡ true → ⊥
 not_next passed count previous key other test failed same exact above =
-    iff_false test failed (exact ∙ ap (shared previous) (sym same), ap (λ k. is_lt (slice_cmp nat_cmp previous k)) same ∙ above)
+    iff_false test failed
+    (exact ∙ ap (shared previous) (sym same), ap (λ k. is_lt (slice_cmp nat_cmp previous k)) same ∙ above)

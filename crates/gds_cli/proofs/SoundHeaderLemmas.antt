@@ -16,7 +16,8 @@ use Rattle.gds_header.proofs.EndingLemmas.{fields_of-front, ending_kind-short}
 use Rattle.gds_cli.specs.SoundHeader.{IsHeaderOf, are_zeros, is_clear, is_faultless}
 
 -- where nothing is left of the front up to the first that ends, no kind holds
-none_passes : {A : Type 0} (ending holding : A → Bool) (xs : List A) → through_first ending (filter holding xs) ≡ [] → list_any holding xs ≡ false
+none_passes : {A : Type 0} (ending holding : A → Bool) (xs : List A) → through_first ending (filter holding xs) ≡ []
+    → list_any holding xs ≡ false
 none_passes ending holding [] none = refl
 none_passes ending holding (x ∷ xs) none =
     ⊎_elim
@@ -28,7 +29,9 @@ none_passes ending holding (x ∷ xs) none =
     (cases_Bool (holding x))
 
 -- where none ends, and of the others none holds, nothing is left
-none_left : {A : Type 0} (ending holding : A → Bool) (xs : List A) → find ending (through_first ending (filter holding xs)) ≡ None → list_any (λ x. not (ending x) && holding x) xs ≡ false → through_first ending (filter holding xs) ≡ []
+none_left : {A : Type 0} (ending holding : A → Bool) (xs : List A)
+    → find ending (through_first ending (filter holding xs)) ≡ None
+    → list_any (λ x. not (ending x) && holding x) xs ≡ false → through_first ending (filter holding xs) ≡ []
 none_left ending holding [] none others = refl
 none_left ending holding (x ∷ xs) none others =
     let parts = or_parts (not (ending x) && holding x) (list_any (λ y. not (ending y) && holding y) xs) others in
@@ -51,7 +54,9 @@ record Past (d : List ℕ) : Type 0 where
   reserved : holds d ReservedByte ≡ false
   number : holds d BadTransactionNumber ≡ false
 
-last_of : (a b c d e f g h i j : Bool) → (a || (b || (c || (d || (e || (f || (g || (h || (i || (j || false)))))))))) ≡ false → (g ≡ false) × (h ≡ false) × (i ≡ false) × (j ≡ false)
+last_of : (a b c d e f g h i j : Bool)
+    → (a || (b || (c || (d || (e || (f || (g || (h || (i || (j || false)))))))))) ≡ false
+    → (g ≡ false) × (h ≡ false) × (i ≡ false) × (j ≡ false)
 last_of a b c d e f g h i j none =
     let p1 = or_parts a _ none in
     let p2 = or_parts b _ p1.1 in
@@ -67,7 +72,10 @@ last_of a b c d e f g h i j none =
 past_none : (d : List ℕ) → header_faults d ≡ [] → Past d × (holds d ShortFile ≡ false)
 unfolding header_faults
 past_none d none =
-    let last = last_of (holds d ShortHeader) (holds d NotDatabase) (holds d BlockSizeNotMultiple) (holds d BlockSizeTooLarge) (holds d NoBlocks) (holds d BadLimit) (holds d ShortFile) (holds d LongFile) (holds d ReservedByte) (holds d BadTransactionNumber) (none_passes ends (holds d) kinds none) in
+    let last =
+    last_of (holds d ShortHeader) (holds d NotDatabase) (holds d BlockSizeNotMultiple) (holds d BlockSizeTooLarge)
+    (holds d NoBlocks) (holds d BadLimit) (holds d ShortFile) (holds d LongFile) (holds d ReservedByte)
+    (holds d BadTransactionNumber) (none_passes ends (holds d) kinds none) in
     (record { long = last.1; reserved = last.2; number = last.3 }, last.0)
 
 none_past : (d : List ℕ) → ending_kind d ≡ None → Past d → header_faults d ≡ []
@@ -77,7 +85,8 @@ none_past d none past = none_left ends (holds d) kinds none (rw (past.long, past
 -- ---- what a header and its bytes say of the file that they are at the front of
 
 range_front : (a b k : ℕ) (xs : List ℕ) → b ≤ k → slice_range (take k xs) a b ≡ slice_range xs a b
-range_front a b k xs within = between_is (take k xs) a b ∙ ap (drop a) (take-take b k xs within) ∙ sym (between_is xs a b)
+range_front a b k xs within =
+    between_is (take k xs) a b ∙ ap (drop a) (take-take b k xs within) ∙ sym (between_is xs a b)
 
 reserved_front : (k : ℕ) (xs : List ℕ) → 8192 ≤ k → reserved_bytes (take k xs) ≡ reserved_bytes xs
 reserved_front k xs within =
@@ -106,7 +115,8 @@ not_true false is = refl
 marked : Header → List ℕ → Bool
 marked h bytes = list_any (λ b. not (eqb b 0)) bytes || list_any (has_free h) (groups_past h)
 
-marked_in : (h : Header) (d front : List ℕ) → take 8192 d ≡ front → fields_of d ≡ h → holds d ReservedByte ≡ marked h (reserved_bytes front)
+marked_in : (h : Header) (d front : List ℕ) → take 8192 d ≡ front → fields_of d ≡ h
+    → holds d ReservedByte ≡ marked h (reserved_bytes front)
 unfolding marked
 marked_in h d front begins fields =
     let bytes = sym (reserved_front 8192 d (lit≤ tt)) ∙ ap reserved_bytes begins in
@@ -132,18 +142,24 @@ clear_is h front =
     let third = zeros_unmarked (slice_range front 4352 8192) in
     let past = list_any (has_free h) (groups_past h) in
     let test = λ (b : ℕ). not (eqb b 0) in
-    let parts = list_any-append test (slice_range front 36 40 ++ slice_range front 48 4096) (slice_range front 4352 8192)
-    ∙ ap (λ x. x || list_any test (slice_range front 4352 8192)) (list_any-append test (slice_range front 36 40) (slice_range front 48 4096)) in
+    let parts =
+    list_any-append test (slice_range front 36 40 ++ slice_range front 48 4096) (slice_range front 4352 8192)
+    ∙ ap (λ x. x || list_any test (slice_range front 4352 8192))
+    (list_any-append test (slice_range front 36 40) (slice_range front 48 4096)) in
     (λ i. first i && (second i && (third i && not past)))
-    ∙ four (list_any test (slice_range front 36 40)) (list_any test (slice_range front 48 4096)) (list_any test (slice_range front 4352 8192)) past ∙ ap (λ x. not (x || past)) (sym parts)
+    ∙ four (list_any test (slice_range front 36 40)) (list_any test (slice_range front 48 4096))
+    (list_any test (slice_range front 4352 8192)) past ∙ ap (λ x. not (x || past)) (sym parts)
 
-module _ (h : Header) (d front : List ℕ) (size : ℕ) (begins : take 8192 d ≡ front) (long : length d ≡ size) (is : h ≡ fields_of front) (ending : ending_kind d ≡ cond (ltb (length d) (file_length_of h)) (Some ShortFile) None) where
+module _ (h : Header) (d front : List ℕ) (size : ℕ) (begins : take 8192 d ≡ front) (long : length d ≡ size)
+    (is : h ≡ fields_of front)
+    (ending : ending_kind d ≡ cond (ltb (length d) (file_length_of h)) (Some ShortFile) None) where
   fields : fields_of d ≡ h
   fields = sym (fields_of-front 8192 d (lit≤ tt)) ∙ ap fields_of begins ∙ sym is
 
   pub sound_header : IsWithinLimits h → is_faultless h front size ≡ true → IsHeaderOf h d
   sound_header limits sound =
-      let first = and_parts (eqb (file_length_of h) size) (is_clear h front && (leb 1 h.tn && leb h.tn (2 ^ 63))) sound in
+      let first =
+      and_parts (eqb (file_length_of h) size) (is_clear h front && (leb 1 h.tn && leb h.tn (2 ^ 63))) sound in
       let second = and_parts (is_clear h front) (leb 1 h.tn && leb h.tn (2 ^ 63)) first.1 in
       let third = and_parts (leb 1 h.tn) (leb h.tn (2 ^ 63)) second.1 in
       let whole : length d ≡ file_length_of h = long ∙ sym (equal_of_test (file_length_of h) size first.0) in
@@ -151,7 +167,8 @@ module _ (h : Header) (d front : List ℕ) (size : ℕ) (begins : take 8192 d �
       let past : Past d = record {
         long = ap (λ (k : Header). ltb (file_length_of k) (length d)) fields ∙ le-ltb _ _ (omega arith);
         reserved = marked_in h d front begins fields ∙ not_true _ (sym (clear_is h front) ∙ second.0);
-        number = ap (λ (k : Header). eqb k.tn 0 || ltb (2 ^ 63) k.tn) fields ∙ number_of_test h.tn (2 ^ 63) third.0 third.1;
+        number =
+            ap (λ (k : Header). eqb k.tn 0 || ltb (2 ^ 63) k.tn) fields ∙ number_of_test h.tn (2 ^ 63) third.0 third.1;
       } in
       record {
         fields = fields;
@@ -163,11 +180,17 @@ module _ (h : Header) (d front : List ℕ) (size : ℕ) (begins : take 8192 d �
   pub not_sound : is_faultless h front size ≡ false → header_faults d ≡ [] → ⊥
   not_sound unsound none =
       let parts = past_none d none in
-      let shorter : ltb (length d) (file_length_of h) ≡ false = sym (ap (λ (k : Header). ltb (length d) (file_length_of k)) fields) ∙ parts.1 in
-      let longer : ltb (file_length_of h) (length d) ≡ false = sym (ap (λ (k : Header). ltb (file_length_of k) (length d)) fields) ∙ parts.0.long in
-      let same : eqb (file_length_of h) size ≡ true = ap (eqb (file_length_of h)) (sym long) ∙ equal_test _ _ longer shorter in
-      let clear : is_clear h front ≡ true = clear_is h front ∙ ap not (sym (marked_in h d front begins fields) ∙ parts.0.reserved) in
-      let number = number_test h.tn (2 ^ 63) (sym (ap (λ (k : Header). eqb k.tn 0 || ltb (2 ^ 63) k.tn) fields) ∙ parts.0.number) in
+      let shorter : ltb (length d) (file_length_of h) ≡ false =
+      sym (ap (λ (k : Header). ltb (length d) (file_length_of k)) fields) ∙ parts.1 in
+      let longer : ltb (file_length_of h) (length d) ≡ false =
+      sym (ap (λ (k : Header). ltb (file_length_of k) (length d)) fields) ∙ parts.0.long in
+      let same : eqb (file_length_of h) size ≡ true =
+      ap (eqb (file_length_of h)) (sym long) ∙ equal_test _ _ longer shorter in
+      let clear : is_clear h front ≡ true =
+      clear_is h front ∙ ap not (sym (marked_in h d front begins fields) ∙ parts.0.reserved) in
+      let number =
+      number_test h.tn (2 ^ 63)
+      (sym (ap (λ (k : Header). eqb k.tn 0 || ltb (2 ^ 63) k.tn) fields) ∙ parts.0.number) in
       let sound : is_faultless h front size ≡ true = rw (same, clear, number.0, number.1) in
       cc
 

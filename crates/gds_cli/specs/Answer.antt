@@ -28,7 +28,8 @@ not_built = record { text = line (codes "NOTBUILT"); status = ended.NotBuilt }
 
 -- The header kind that ends the reading is the one fault that is told. A header without one isn't read on yet.
 abbrev pub header_reply : Option HeaderKind → Reply
-header_reply (Some kind) = record { text = line (name_of kind ++ codes " file") ++ line (codes "FAULTS 1"); status = ended.Unsound }
+header_reply (Some kind) =
+    record { text = line (name_of kind ++ codes " file") ++ line (codes "FAULTS 1"); status = ended.Unsound }
 header_reply None = not_built
 
 -- An extract says the text of the map that thin files stand for. For other files it isn't built.
@@ -85,12 +86,15 @@ is_break other = false
 -- more is said than a front of the reply.
 abbrev pub Answers : Reply → Status → Contents → Contents → Type 0
 Answers reply status before after =
-    MatchBool (is_break status) (SaysFront reply.text before after) ((status ≡ reply.status) × (after ≡ saying before reply.text))
+    MatchBool (is_break status) (SaysFront reply.text before after)
+    ((status ≡ reply.status) × (after ≡ saying before reply.text))
 
--- How a call ends over a host that tells, where one of these replies is due: it is said, whole, and its status given. At
+-- How a call ends over a host that tells, where one of these replies is due: it is said, whole, and its status given.
+-- At
 -- a break some bytes were said, which are a front of the reply that is due. Both files stay.
 abbrev pub Ends : (Reply → Type 0) → Status → Contents → Contents → Type 0
 Ends due status before after =
     MatchBool (is_break status)
-    ((said : List ℕ) × (after ≡ saying before said) × ((reply : Reply) → due reply → (n : ℕ) × (said ≡ take n reply.text)))
+    ((said : List ℕ) × (after ≡ saying before said)
+    × ((reply : Reply) → due reply → (n : ℕ) × (said ≡ take n reply.text)))
     ((reply : Reply) × due reply × (status ≡ reply.status) × (after ≡ saying before reply.text))

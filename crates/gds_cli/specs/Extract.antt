@@ -8,7 +8,8 @@ use Rattle.gds_cli.specs.Answer.{Reply, ExtractDue}
 
 -- What is told now: all of the text was said, or where the work broke off a front of it. Both files stayed.
 abbrev pub SaidOf : {T E : Type 0} → Contents → List ℕ → Result T E → Option Contents → Type 0
-SaidOf c text result now = MatchResult result (λ _. now ≡ Some (saying c text)) (λ _. (n : ℕ) × (now ≡ Some (saying c (take n text))))
+SaidOf c text result now =
+    MatchResult result (λ _. now ≡ Some (saying c text)) (λ _. (n : ℕ) × (now ≡ Some (saying c (take n text))))
 
 -- what was said is a front of the reply that is due
 pub record BreaksOff (c : Contents) (due : Reply → Type 0) (now : Option Contents) : Type 0 where
@@ -22,4 +23,5 @@ SaysThin stamp c true now = (m : Globals) × IsThinWith c.db c.images m × (now 
 SaysThin stamp c false now = ((m : Globals) → IsThinWith c.db c.images m → ⊥) × (now ≡ Some c)
 
 abbrev pub ExtractEnds : {E : Type 0} → List ℕ → Contents → Result Bool E → Option Contents → Type 0
-ExtractEnds stamp c result now = MatchResult result (λ thin. SaysThin stamp c thin now) (λ _. BreaksOff c (ExtractDue stamp c) now)
+ExtractEnds stamp c result now =
+    MatchResult result (λ thin. SaysThin stamp c thin now) (λ _. BreaksOff c (ExtractDue stamp c) now)

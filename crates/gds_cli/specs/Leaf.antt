@@ -5,7 +5,7 @@ use Rattle.std.specs.Cmp.Lexicographic.{slice_cmp}
 use Rattle.m_key.specs.KeyEnd.{shared}
 use Rattle.m_key.specs.Reference.{place_of}
 use Rattle.gds_block.specs.Block.{used_of}
-use Rattle.gds_block.specs.Record.{Record, records_of}
+use Rattle.gds_block.specs.Record.{Record, full_of, records_of}
 use Rattle.gds_header.specs.declared.header.Header.{Header}
 use Rattle.gds_header.specs.Fields.{block_of}
 use Rattle.gds_cli.specs.declared.thin.leaf.LeafNode.{LeafNode}
@@ -18,7 +18,7 @@ valued node = (place_of node.reference, node.value.now)
 -- A record behind a key is of this key and value: its count is that of the leading bytes which the keys share, and its
 -- key has no more bytes than there may be and is above the key before it.
 pub record IsSplit (most : ℕ) (previous : List ℕ) (r : Record) (key value : List ℕ) : Type 0 where
-  pub bytes : take r.count previous ++ r.body ≡ key ++ value
+  pub bytes : full_of previous r ≡ key ++ value
   pub exact : r.count ≡ shared previous key
   pub within : length key ≤ most
   pub above : IsTrue (is_lt (slice_cmp nat_cmp previous key))

@@ -19,7 +19,9 @@ are_zeros bytes = list_all (λ b. b == 0) bytes
 abbrev pub is_clear : Header → List ℕ → Bool
 is_clear h front =
     are_zeros (slice_range front 36 40)
-    && (are_zeros (slice_range front 48 4096) && (are_zeros (slice_range front 4352 8192) && not (list_any (has_free h) (groups_past h))))
+    &&
+    (are_zeros (slice_range front 48 4096) &&
+    (are_zeros (slice_range front 4352 8192) && not (list_any (has_free h) (groups_past h))))
 
 -- the header has none of the faults that could be read past, in a file of this length
 abbrev pub is_faultless : Header → List ℕ → ℕ → Bool

@@ -1,4 +1,5 @@
--- Thin files: the directory is a single leaf, and so is each global. Which pairs of files are thin, and the globals that
+-- Thin files: the directory is a single leaf, and so is each global. Which pairs of files are thin, and the globals
+-- that
 -- they stand for.
 use Rattle.std.specs.Prelude.{ℕ, ◌≡◌, ◌≤◌, ◌<◌, ◌+◌, ◌%◌, Bool, ◌&&◌, ◌==◌, nat_eq, nat_lt, not, IsTrue, List, [], ◌∷◌, ◌++◌, length, take, sum_by, flat_map, codes}
 use Rattle.std.specs.List.{starts_with, AllByRecursion, AllZip, IsDistinct}
@@ -10,7 +11,7 @@ use Rattle.m_key.specs.KeyEnd.{shared}
 use Rattle.m_key.specs.Globals.{Globals, Place}
 use Rattle.gds_block.specs.Fields.{u16_at, u32_at}
 use Rattle.gds_block.specs.Block.{IsBlock, version_of, reserved_of, level_of, used_of}
-use Rattle.gds_block.specs.Record.{Record, records_of}
+use Rattle.gds_block.specs.Record.{Record, full_of, records_of}
 use Rattle.gds_header.specs.declared.header.Header.{Header}
 use Rattle.gds_header.specs.Fields.{fields_of, block_of}
 use Rattle.gds_header.specs.Kinds.{header_faults}
@@ -35,7 +36,7 @@ is_star_block h block =
 -- A record behind a key is that of a node and its value: its count is that of the leading bytes which the keys share,
 -- and its key has no more bytes than the header allows and is above the key before it.
 pub record IsRecordOf (h : Header) (previous : List ℕ) (r : Record) (v : Valued) : Type 0 where
-  pub bytes : take r.count previous ++ r.body ≡ key_bytes v.0.node ++ v.1
+  pub bytes : full_of previous r ≡ key_bytes v.0.node ++ v.1
   pub exact : r.count ≡ shared previous (key_bytes v.0.node)
   pub within : length (key_bytes v.0.node) ≤ h.key_max
   pub above : IsTrue (is_lt (slice_cmp nat_cmp previous (key_bytes v.0.node)))
@@ -78,7 +79,8 @@ pub record IsGlobal (d : List ℕ) (entry : Valued) (vs : List Valued) : Type 0 
 
 -- the blocks of a thin file that are no maps
 abbrev pub blocks_of : List ℕ → List Valued → List ℕ
-blocks_of d directory = 1 ∷ star_child (block_of d 1) ∷ flat_map (λ entry. root_of entry ∷ leaf_of d entry ∷ []) directory
+blocks_of d directory =
+    1 ∷ star_child (block_of d 1) ∷ flat_map (λ entry. root_of entry ∷ leaf_of d entry ∷ []) directory
 
 -- The two files are thin, with this directory and each global's nodes: the header has no fault, the file of images is
 -- closed, and no block has two uses.

@@ -92,7 +92,8 @@ fn stamp_of(word: &str) -> Option<ArrayVec<u8, STAMP_MAX>>
 
 /// What stands behind the name of a stamp, all of it printable.
 fn stamp_text(word: &[u8]) -> Option<&[u8]>
-    ensures { MatchOption result (leads_stamp word.now ≡ false) (λ text. (leads_stamp word.now ≡ true) × (text.now ≡ drop 7 word.now)) }
+    ensures { MatchOption result (leads_stamp word.now ≡ false)
+        (λ text. (leads_stamp word.now ≡ true) × (text.now ≡ drop 7 word.now)) }
 {
     if word.len() < STAMP_NAME.len() {
         return None;

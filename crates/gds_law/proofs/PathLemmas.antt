@@ -1,5 +1,7 @@
 -- The order of paths, and a list of all that lead somewhere.
-use Rattle.std.proofs.Common.{◌≡◌, ℕ, zero, suc, ◌+◌, ◌-◌, ◌<◌, ◌≤◌, ◌==◌, Bool, true, false, if◌then◌else◌, List, [], ◌∷◌, map, flat_map, find, take, length, Option, None, Some, option_map, option_and_then, Ordering, Less, Equal, Greater, nat_cmp, inl, inr, refl, sym, ap, subst, ◌∙◌, arith}
+use Rattle.std.proofs.Common.{◌≡◌, ℕ, zero, suc, ◌+◌, ◌-◌, ◌<◌, ◌≤◌, ◌==◌, Bool, true, false, if◌then◌else◌, List, []}
+use Rattle.std.proofs.Common.{◌∷◌, map, flat_map, find, take, length, Option, None, Some, option_map, option_and_then}
+use Rattle.std.proofs.Common.{Ordering, Less, Equal, Greater, nat_cmp, inl, inr, refl, sym, ap, subst, ◌∙◌, arith}
 use Rattle.std.specs.Cmp.{IsTotalOrder}
 use Rattle.std.specs.FinMap.{IsAntisymmetric, slice_cmp-IsAntisymmetric, nat_cmp-IsAntisymmetric}
 use Rattle.std.specs.Ordering.{ordering_then}
@@ -8,7 +10,7 @@ use Rattle.std.proofs.lemmas.Cmp.{lists_total, then_total, on_total, nat_cmp_tot
 use Rattle.gds_header.specs.Fields.{fields_of, block_of}
 use Rattle.gds_law.specs.Visit.{Visit, Child, directory_root}
 use Rattle.gds_law.specs.Path.{Steps, children_at, child_at, visit_from, visit_at, step_cmp, path_cmp, front_of}
-use Rattle.gds_law.proofs.Membership.{IsIn, in_map, in_flat_map}
+use Rattle.gds_law.proofs.MembershipLemmas.{IsIn, in_map, in_flat_map}
 use Rattle.gds_law.proofs.RankLemmas.{rank, falls}
 
 step_total : IsTotalOrder step_cmp
@@ -42,7 +44,8 @@ front_below path h = take_below (length path - 1) path (omega arith)
 -- the paths of fewer than n records that lead somewhere from a visit
 pub paths_below : List ℕ → ℕ → Visit → List Steps
 paths_below image zero v = []
-paths_below image (suc n) v = [] ∷ flat_map (λ c. map (λ path. (v.block, c.offset) ∷ path) (paths_below image n c.visit)) (children_at image v)
+paths_below image (suc n) v =
+    [] ∷ flat_map (λ c. map (λ path. (v.block, c.offset) ∷ path) (paths_below image n c.visit)) (children_at image v)
 
 pub child_lower : (image : List ℕ) (v : Visit) (c : Child) → IsIn (children_at image v) c → rank c.visit < rank v
 unfolding children_at
@@ -54,25 +57,31 @@ pub record LeadsOn (children : List Child) (offset : ℕ) (v : Visit) : Type 0 w
   pub at : child.offset ≡ offset
   pub leads : child.visit ≡ v
 
-pub found : (children : List Child) (offset : ℕ) (v : Visit) → option_map (λ c. c.visit) (find (λ c. c.offset == offset) children) ≡ Some v → LeadsOn children offset v
+pub found : (children : List Child) (offset : ℕ) (v : Visit)
+    → option_map (λ c. c.visit) (find (λ c. c.offset == offset) children) ≡ Some v → LeadsOn children offset v
 found [] offset v h = absurd (cc)
 found (c ∷ cs) offset v h = by (c.offset == offset) refl h (found cs offset v)
   where
-    by : (t : Bool) → (c.offset == offset) ≡ t → option_map (λ d. d.visit) (if t then Some c else find (λ d. d.offset == offset) cs) ≡ Some v
-        → (option_map (λ d. d.visit) (find (λ d. d.offset == offset) cs) ≡ Some v → LeadsOn cs offset v) → LeadsOn (c ∷ cs) offset v
+    by : (t : Bool) → (c.offset == offset) ≡ t
+        → option_map (λ d. d.visit) (if t then Some c else find (λ d. d.offset == offset) cs) ≡ Some v
+        → (option_map (λ d. d.visit) (find (λ d. d.offset == offset) cs) ≡ Some v → LeadsOn cs offset v)
+        → LeadsOn (c ∷ cs) offset v
     by true e k next = record { child = c; there = inl refl; at = eqb-true c.offset offset e; leads = cc }
     by false e k next = let l = next k in record { child = l.child; there = inr l.there; at = l.at; leads = l.leads }
 
-pub some_if : {A : Type 0} (t : Bool) (o : Option A) (x : A) → (if t then o else None) ≡ Some x → (t ≡ true) × (o ≡ Some x)
+pub some_if : {A : Type 0} (t : Bool) (o : Option A) (x : A) → (if t then o else None) ≡ Some x
+    → (t ≡ true) × (o ≡ Some x)
 some_if true o x h = (refl, h)
 some_if false o x h = absurd (cc)
 
-pub some_then : {A B : Type 0} (f : A → Option B) (o : Option A) (y : B) → option_and_then f o ≡ Some y → (x : A) × (o ≡ Some x) × (f x ≡ Some y)
+pub some_then : {A B : Type 0} (f : A → Option B) (o : Option A) (y : B) → option_and_then f o ≡ Some y
+    → (x : A) × (o ≡ Some x) × (f x ≡ Some y)
 some_then f None y h = absurd (cc)
 some_then f (Some x) y h = (x, refl, h)
 
 -- Each path that leads somewhere is among them.
-pub path_listed : (image : List ℕ) (path : Steps) (n : ℕ) (v w : Visit) → rank v < n → visit_from image v path ≡ Some w → IsIn (paths_below image n v) path
+pub path_listed : (image : List ℕ) (path : Steps) (n : ℕ) (v w : Visit) → rank v < n → visit_from image v path ≡ Some w
+    → IsIn (paths_below image n v) path
 unfolding paths_below
 path_listed image path zero v w low h = absurd (omega arith)
 path_listed image [] (suc n) v w low h = inl refl
@@ -81,18 +90,24 @@ path_listed image ((block, offset) ∷ steps) (suc n) v w low h =
     let on = some_then (λ u. visit_from image u steps) (child_at image v offset) w here.1 in
     let l = found (children_at image v) offset on.0 on.1 in
     let lower : rank l.child.visit < rank v = child_lower image v l.child l.there in
-    let rest : IsIn (paths_below image n l.child.visit) steps = path_listed image steps n l.child.visit w (omega arith) (ap (λ u. visit_from image u steps) l.leads ∙ on.2) in
+    let rest : IsIn (paths_below image n l.child.visit) steps =
+    path_listed image steps n l.child.visit w (omega arith) (ap (λ u. visit_from image u steps) l.leads ∙ on.2) in
     let first = eqb-true block v.block here.0 in
-    inr (subst (λ (s : ℕ × ℕ). IsIn (flat_map (λ c. map (λ path. (v.block, c.offset) ∷ path) (paths_below image n c.visit)) (children_at image v)) (s ∷ steps))
+    inr (subst (λ (s : ℕ
+    × ℕ). IsIn (flat_map (λ c. map (λ path. (v.block, c.offset) ∷ path) (paths_below image n c.visit))
+    (children_at image v)) (s ∷ steps))
     (λ i. (sym first i, l.at i))
-    (in_flat_map (λ c. map (λ path. (v.block, c.offset) ∷ path) (paths_below image n c.visit)) (children_at image v) l.child ((v.block, l.child.offset) ∷ steps) l.there
+    (in_flat_map (λ c. map (λ path. (v.block, c.offset) ∷ path) (paths_below image n c.visit)) (children_at image v)
+    l.child ((v.block, l.child.offset) ∷ steps) l.there
     (in_map (λ path. (v.block, l.child.offset) ∷ path) (paths_below image n l.child.visit) steps rest)))
 
-pub all_listed : (image : List ℕ) (path : Steps) (w : Visit) → visit_at image path ≡ Some w → IsIn (paths_below image 16 directory_root) path
+pub all_listed : (image : List ℕ) (path : Steps) (w : Visit) → visit_at image path ≡ Some w
+    → IsIn (paths_below image 16 directory_root) path
 all_listed image path w h = path_listed image path 16 directory_root w (omega arith) h
 
 -- A path has no more records than the rank falls on the way, and so 15 at most.
-pub path_short : (image : List ℕ) (path : Steps) (v w : Visit) → visit_from image v path ≡ Some w → length path + rank w ≤ rank v
+pub path_short : (image : List ℕ) (path : Steps) (v w : Visit) → visit_from image v path ≡ Some w
+    → length path + rank w ≤ rank v
 path_short image [] v w h = let same : v ≡ w = cc in omega (arith, ap rank same)
 path_short image ((block, offset) ∷ steps) v w h =
     let here = some_if (block == v.block) _ w h in

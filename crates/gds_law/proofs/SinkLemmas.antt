@@ -1,5 +1,6 @@
 -- How far a list has come that is to grow by another one, item by item or in runs; and the same of a sink.
-use Rattle.std.proofs.Common.{ℕ, ◌≡◌, ◌+◌, ◌≤◌, List, [], ◌++◌, length, take, refl, sym, ◌∙◌, ap, subst, arith, append_assoc, length-append}
+use Rattle.std.proofs.Common.{ℕ, ◌≡◌, ◌+◌, ◌≤◌, List, [], ◌++◌, length, take, refl, sym, ◌∙◌, ap, subst, arith}
+use Rattle.std.proofs.Common.{append_assoc, length-append}
 use Rattle.std.specs.Prelude.{OnErr, Result, Ok, Err}
 use Rattle.std.proofs.lemmas.List.{append-nil, take-append-drop, take_all, take_at}
 use Rattle.host_model.specs.Failures.{Rose}
@@ -76,7 +77,13 @@ module _ {A : Type 0} where
   -- More would have been added behind them.
   pub IsCut-front : (old later xs rest whole : List A) → xs ++ rest ≡ whole → IsCut old later xs → IsCut old later whole
   IsCut-front old later xs rest whole w cut =
-      IsCut-more old old later xs rest whole 0 (record { done = []; so_far = sym (append-nil old); parts = w; counted = refl }) cut
+      IsCut-more old old later xs rest whole 0 (record {
+        done = [];
+        so_far = sym (append-nil old);
+        parts = w;
+        counted =
+            refl;
+      }) cut
 
   -- Nothing was added.
   pub IsCut-none : (old whole : List A) → IsCut old old whole
@@ -84,7 +91,8 @@ module _ {A : Type 0} where
 
   -- All of it was added.
   pub IsCut-all : (old now whole : List A) → now ≡ old ++ whole → IsCut old now whole
-  IsCut-all old now whole e = (length whole, e ∙ ap (λ ys. old ++ ys) (sym (take_all (length whole) whole (omega arith))))
+  IsCut-all old now whole e =
+      (length whole, e ∙ ap (λ ys. old ++ ys) (sym (take_all (length whole) whole (omega arith))))
 
 pub OnErr-any : {T E : Type 0} (r : Result T E) (P : Type 0) → P → OnErr r P
 OnErr-any (Ok x) P h = tt
@@ -125,7 +133,12 @@ module _ {S : Type 0} (list : S → List Fault) (count : S → ℕ) where
   WasTold-err {T} {E} old new due r failed y is cut le rose =
       let P : Result T E → Type 0 = λ q. WasTold list count old new due q failed in
       subst P (sym is)
-      (record { faults = record { all = tt; some = cut }; failures = le; rose = λ h. rose (same_error (Err y) y failed refl h) })
+      (record {
+        faults = record { all = tt; some = cut };
+        failures = le;
+        rose =
+            λ h. rose (same_error (Err y) y failed refl h);
+      })
 
   -- A refusal is handed on.
   pub WasTold-handed : {T U E F : Type 0} (old new : S) (due : List Fault) (failed y : E) (r : Result U F) (other z : F)

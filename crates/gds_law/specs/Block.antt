@@ -1,5 +1,6 @@
 -- What can be wrong with a block of a tree, in its order, and its children.
-use Rattle.std.specs.Prelude.{ℕ, ◌+◌, ◌==◌, Bool, false, ◌&&◌, ◌||◌, not, nat_lt, nat_le, List, [], ◌∷◌, ◌++◌, length, map, filter, Option, None, Some, is_none, if◌then◌else◌}
+use Rattle.std.specs.Prelude.{ℕ, ◌+◌, ◌==◌, Bool, false, ◌&&◌, ◌||◌, not, nat_lt, nat_le, List, [], ◌∷◌, ◌++◌, length}
+use Rattle.std.specs.Prelude.{map, filter, Option, None, Some, is_none, if◌then◌else◌}
 use Rattle.std.specs.List.{list_any}
 use Rattle.gds_block.specs.Block.{version_of, reserved_of, tn_of}
 use Rattle.gds_block.specs.Record.{Record, records_of, bytes_left, least_size}
@@ -12,7 +13,9 @@ use Rattle.gds_law.specs.Visit.{Visit, Child}
 use Rattle.gds_law.specs.BlockReading.{BlockReading, PlacedRecord, reading_of, size_of, key_of}
 use Rattle.gds_law.specs.Record.{kinds_of, is_ended, children_of_record, is_directory}
 use Rattle.gds_law.specs.declared.kind.FaultKind.{FaultKind}
-use Rattle.gds_law.specs.declared.kind.FaultKind.TheVariants.{BadVersion, TransactionTooNew, UsedTooSmall, UsedTooLarge, RootAtLevelZero, WrongLevel, EmptyBlock, RecordTooSmall, RecordTooLarge}
+use Rattle.gds_law.specs.declared.kind.FaultKind.TheVariants.{BadVersion, TransactionTooNew, UsedTooSmall, UsedTooLarge}
+use Rattle.gds_law.specs.declared.kind.FaultKind.TheVariants.{RootAtLevelZero, WrongLevel, EmptyBlock, RecordTooSmall}
+use Rattle.gds_law.specs.declared.kind.FaultKind.TheVariants.{RecordTooLarge}
 
 -- A root has a level from 1 to 7, and every other block the level that is due.
 abbrev pub is_wrong_level : Option ℕ → ℕ → Bool

@@ -1,8 +1,10 @@
 -- How a record of a tree's block is read behind the key before it.
-use Rattle.std.specs.Prelude.{ℕ, ◌+◌, ◌==◌, Bool, false, ◌&&◌, not, nat_lt, List, length, take, drop, ◌++◌, Option, None, Some, unwrap_or, if◌then◌else◌}
+use Rattle.std.specs.Prelude.{ℕ, ◌+◌, ◌==◌, Bool, false, ◌&&◌, not, nat_lt, List, length, take, drop, Option, None}
+use Rattle.std.specs.Prelude.{Some, unwrap_or, if◌then◌else◌}
 use Rattle.gds_block.specs.Fields.{u32_at}
 use Rattle.gds_block.specs.Block.{level_of, used_of}
 use Rattle.gds_block.specs.Record.{Record}
+use Rattle.gds_block.specs.Record as records
 use Rattle.gds_header.specs.declared.header.Header.{Header}
 use Rattle.m_key.specs.KeyEnd.{key_len}
 use Rattle.gds_law.specs.Visit.{TreeRole, directory, global, Visit}
@@ -32,9 +34,9 @@ size_of s = 4 + length s.record_.body
 abbrev pub is_last : BlockReading → PlacedRecord → Bool
 is_last b s = nat_lt 0 b.level && (s.record_.offset + size_of s == b.used)
 
--- the leading bytes of the key before, as many as the count says, and then the body
+-- its bytes in full behind the key before
 abbrev pub full_of : PlacedRecord → List ℕ
-full_of s = take s.record_.count s.previous ++ s.record_.body
+full_of s = records.full_of s.previous s.record_
 
 -- how many of the full bytes are the key, which ends with their first two neighbouring zero bytes and has no more bytes
 -- than the header allows, where there is such a key

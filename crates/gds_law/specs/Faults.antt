@@ -12,7 +12,8 @@ use Rattle.gds_law.specs.Maps.{is_used, map_faults, count_faults, fault_of}
 abbrev pub faults_of_header : List ℕ → List Fault
 faults_of_header image = map (λ kind. fault_of 0 (fault_kind_of kind)) (header_faults image)
 
--- Where no kind ends the reading of the header: the faults of the trees on the kept paths follow, then those of the maps
+-- Where no kind ends the reading of the header: the faults of the trees on the kept paths follow, then those of the
+-- maps
 -- and of the free count.
 pub record AreFaultsRead (image : List ℕ) (faults : List Fault) : Type 0 where
   pub kept : List Steps
@@ -20,7 +21,8 @@ pub record AreFaultsRead (image : List ℕ) (faults : List Fault) : Type 0 where
   pub are_kept : AreKept image kept
   pub are_reached : AreReached image kept reached
   pub whole :
-      faults ≡ faults_of_header image ++ tree_faults image kept reached ++ map_faults image (is_used image kept) ++ count_faults image
+      faults ≡ faults_of_header image ++ tree_faults image kept reached ++ map_faults image (is_used image kept)
+      ++ count_faults image
 
 abbrev pub AreFaultsAfter : Option HeaderKind → List ℕ → List Fault → Type 0
 AreFaultsAfter (Some kind) image faults = faults ≡ faults_of_header image
@@ -37,4 +39,5 @@ HasOneReading image =
 
 abbrev pub HasOneFaultList : List ℕ → Type 0
 HasOneFaultList image =
-    ((faults : List Fault) × AreFaults image faults) × ((a b : List Fault) → AreFaults image a → AreFaults image b → a ≡ b)
+    ((faults : List Fault) × AreFaults image faults)
+    × ((a b : List Fault) → AreFaults image a → AreFaults image b → a ≡ b)

@@ -1,11 +1,13 @@
 -- The first thing that is wrong with the parts of a key.
-use Rattle.std.specs.Prelude.{ℕ, Bool, false, ◌==◌, nat_lt, not, List, [], ◌∷◌, length, Option, None, Some, if◌then◌else◌}
+use Rattle.std.specs.Prelude.{ℕ, Bool, false, ◌==◌, nat_lt, not, List, [], ◌∷◌, length, Option, None, Some}
+use Rattle.std.specs.Prelude.{if◌then◌else◌}
 use Rattle.std.specs.Option.{option_or}
 use Rattle.m_key.specs.Node.{is_name}
 use Rattle.m_key.specs.KeyParts.{name_part, subscript_parts, unescaped}
 use Rattle.gds_law.specs.Number.{is_number_text, is_number_bytes}
 use Rattle.gds_law.specs.declared.kind.FaultKind.{FaultKind}
-use Rattle.gds_law.specs.declared.kind.FaultKind.TheVariants.{BadName, TooManySubscripts, BadNumber, BadString, NullSubscript}
+use Rattle.gds_law.specs.declared.kind.FaultKind.TheVariants.{BadName, TooManySubscripts, BadNumber, BadString}
+use Rattle.gds_law.specs.declared.kind.FaultKind.TheVariants.{NullSubscript}
 
 -- bytes of a string, which is no canonical number
 abbrev pub is_text : Option (List ℕ) → Bool

@@ -3,7 +3,21 @@ use Rattle.std.specs.Prelude.{ℕ, Bool, true, false, List, [], ◌∷◌, codes
 use Rattle.gds_header.specs.declared.kind.HeaderKind.{HeaderKind}
 use Rattle.gds_header.specs.declared.kind.HeaderKind.TheVariants as header
 use Rattle.gds_law.specs.declared.kind.FaultKind.{FaultKind}
-use Rattle.gds_law.specs.declared.kind.FaultKind.TheVariants.{ShortHeader, NotDatabase, BlockSizeNotMultiple, BlockSizeTooLarge, NoBlocks, BadLimit, ShortFile, LongFile, ReservedByte, BadTransactionNumber, BadVersion, TransactionTooNew, UsedTooSmall, UsedTooLarge, RootAtLevelZero, WrongLevel, EmptyBlock, RecordTooSmall, RecordTooLarge, StarSize, StarCount, FirstCount, CountTooLarge, KeyTooLong, KeyWithoutEnd, WrongCount, KeyOutOfOrder, BadName, TooManySubscripts, BadNumber, BadString, NullSubscript, DirectorySubscript, WrongGlobal, KeyAboveBound, KeyBelowBound, RestNotPointer, ValueTooLong, PointerNotPositive, PointerTooLarge, PointerToMap, DoublyAllocated, MapUsedTooSmall, MapUsedTooLarge, MapLevel, GroupMarkedFree, GroupMarkedFull, IllegalPair, UsedMarkedFree, UnusedMarkedBusy, PairPastTotal, WrongFreeCount}
+use Rattle.gds_law.specs.declared.kind.FaultKind.TheVariants.{ShortHeader, NotDatabase, BlockSizeNotMultiple}
+use Rattle.gds_law.specs.declared.kind.FaultKind.TheVariants.{BlockSizeTooLarge, NoBlocks, BadLimit, ShortFile}
+use Rattle.gds_law.specs.declared.kind.FaultKind.TheVariants.{LongFile, ReservedByte, BadTransactionNumber, BadVersion}
+use Rattle.gds_law.specs.declared.kind.FaultKind.TheVariants.{TransactionTooNew, UsedTooSmall, UsedTooLarge}
+use Rattle.gds_law.specs.declared.kind.FaultKind.TheVariants.{RootAtLevelZero, WrongLevel, EmptyBlock, RecordTooSmall}
+use Rattle.gds_law.specs.declared.kind.FaultKind.TheVariants.{RecordTooLarge, StarSize, StarCount, FirstCount}
+use Rattle.gds_law.specs.declared.kind.FaultKind.TheVariants.{CountTooLarge, KeyTooLong, KeyWithoutEnd, WrongCount}
+use Rattle.gds_law.specs.declared.kind.FaultKind.TheVariants.{KeyOutOfOrder, BadName, TooManySubscripts, BadNumber}
+use Rattle.gds_law.specs.declared.kind.FaultKind.TheVariants.{BadString, NullSubscript, DirectorySubscript, WrongGlobal}
+use Rattle.gds_law.specs.declared.kind.FaultKind.TheVariants.{KeyAboveBound, KeyBelowBound, RestNotPointer}
+use Rattle.gds_law.specs.declared.kind.FaultKind.TheVariants.{ValueTooLong, PointerNotPositive, PointerTooLarge}
+use Rattle.gds_law.specs.declared.kind.FaultKind.TheVariants.{PointerToMap, DoublyAllocated, MapUsedTooSmall}
+use Rattle.gds_law.specs.declared.kind.FaultKind.TheVariants.{MapUsedTooLarge, MapLevel, GroupMarkedFree}
+use Rattle.gds_law.specs.declared.kind.FaultKind.TheVariants.{GroupMarkedFull, IllegalPair, UsedMarkedFree}
+use Rattle.gds_law.specs.declared.kind.FaultKind.TheVariants.{UnusedMarkedBusy, PairPastTotal, WrongFreeCount}
 
 -- the name under which a kind is told
 abbrev pub name_of : FaultKind → List ℕ

@@ -11,7 +11,3 @@ pub mod Maps
 pub mod Faults
 pub mod Line
 pub mod Sink
-pub mod Stands
-pub mod Sound
-pub mod Shape
-pub mod Move

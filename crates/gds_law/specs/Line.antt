@@ -4,7 +4,13 @@ use Rattle.std.specs.Fmt.{decimal, digits}
 use Rattle.gds_law.specs.Kinds.{name_of}
 use Rattle.gds_law.specs.declared.fault.Fault.{Fault}
 use Rattle.gds_law.specs.declared.kind.FaultKind.{FaultKind}
-use Rattle.gds_law.specs.declared.kind.FaultKind.TheVariants.{ShortHeader, NotDatabase, BlockSizeNotMultiple, BlockSizeTooLarge, NoBlocks, BadLimit, ShortFile, LongFile, ReservedByte, BadTransactionNumber, BadVersion, TransactionTooNew, MapUsedTooSmall, MapUsedTooLarge, MapLevel, GroupMarkedFree, GroupMarkedFull, IllegalPair, UsedMarkedFree, UnusedMarkedBusy, PairPastTotal, WrongFreeCount}
+use Rattle.gds_law.specs.declared.kind.FaultKind.TheVariants.{ShortHeader, NotDatabase, BlockSizeNotMultiple}
+use Rattle.gds_law.specs.declared.kind.FaultKind.TheVariants.{BlockSizeTooLarge, NoBlocks, BadLimit, ShortFile}
+use Rattle.gds_law.specs.declared.kind.FaultKind.TheVariants.{LongFile, ReservedByte, BadTransactionNumber, BadVersion}
+use Rattle.gds_law.specs.declared.kind.FaultKind.TheVariants.{TransactionTooNew, MapUsedTooSmall, MapUsedTooLarge}
+use Rattle.gds_law.specs.declared.kind.FaultKind.TheVariants.{MapLevel, GroupMarkedFree, GroupMarkedFull, IllegalPair}
+use Rattle.gds_law.specs.declared.kind.FaultKind.TheVariants.{UsedMarkedFree, UnusedMarkedBusy, PairPastTotal}
+use Rattle.gds_law.specs.declared.kind.FaultKind.TheVariants.{WrongFreeCount}
 
 -- what a fault is about: the file, a local bitmap or what it says of a block, or a block of a tree
 pub data Subject : Type 0 where

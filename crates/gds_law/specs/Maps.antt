@@ -1,5 +1,6 @@
 -- The faults of the local bitmaps and of the header's free count.
-use Rattle.std.specs.Prelude.{ℕ, ◌+◌, ◌*◌, ◌%◌, ◌==◌, Bool, false, ◌&&◌, ◌||◌, not, nat_lt, nat_le, List, [], ◌∷◌, ◌++◌, length, map, filter, flat_map, if◌then◌else◌}
+use Rattle.std.specs.Prelude.{ℕ, ◌+◌, ◌*◌, ◌%◌, ◌==◌, Bool, false, ◌&&◌, ◌||◌, not, nat_lt, nat_le, List, [], ◌∷◌, ◌++◌}
+use Rattle.std.specs.Prelude.{length, map, filter, flat_map, if◌then◌else◌}
 use Rattle.std.specs.List.{range_with_len}
 use Rattle.gds_block.specs.Block.{version_of, reserved_of, level_of, used_of, tn_of}
 use Rattle.gds_bitmap.specs.Bitmap.{pair_of, is_free_at}
@@ -11,7 +12,10 @@ use Rattle.gds_law.specs.declared.fault.Fault.{Fault}
 use Rattle.gds_law.specs.Path.{Steps}
 use Rattle.gds_law.specs.Tree.{is_reached}
 use Rattle.gds_law.specs.declared.kind.FaultKind.{FaultKind}
-use Rattle.gds_law.specs.declared.kind.FaultKind.TheVariants.{BadVersion, TransactionTooNew, MapUsedTooSmall, MapUsedTooLarge, MapLevel, GroupMarkedFree, GroupMarkedFull, IllegalPair, UsedMarkedFree, UnusedMarkedBusy, PairPastTotal, WrongFreeCount}
+use Rattle.gds_law.specs.declared.kind.FaultKind.TheVariants.{BadVersion, TransactionTooNew, MapUsedTooSmall}
+use Rattle.gds_law.specs.declared.kind.FaultKind.TheVariants.{MapUsedTooLarge, MapLevel, GroupMarkedFree}
+use Rattle.gds_law.specs.declared.kind.FaultKind.TheVariants.{GroupMarkedFull, IllegalPair, UsedMarkedFree}
+use Rattle.gds_law.specs.declared.kind.FaultKind.TheVariants.{UnusedMarkedBusy, PairPastTotal, WrongFreeCount}
 
 -- A group has 512 blocks, of which the first is its map.
 abbrev pub map_number : ℕ → ℕ
@@ -44,7 +48,8 @@ is_used image kept block = (block % 512 == 0) || is_reached image kept block
 
 -- The kind is there, of a group's map.
 abbrev pub map_holds : List ℕ → ℕ → FaultKind → Bool
-map_holds image group BadVersion = not (version_of (map_of image group) == 1) || not (reserved_of (map_of image group) == 0)
+map_holds image group BadVersion =
+    not (version_of (map_of image group) == 1) || not (reserved_of (map_of image group) == 0)
 map_holds image group TransactionTooNew = nat_le (fields_of image).tn (tn_of (map_of image group))
 map_holds image group MapUsedTooSmall = nat_lt (used_of (map_of image group)) 144
 map_holds image group MapUsedTooLarge = nat_lt 144 (used_of (map_of image group))
@@ -55,7 +60,8 @@ map_holds image group kind = false
 
 -- The kind is there, of a place in a group's map, which tells the state of a block.
 abbrev pub pair_holds : List ℕ → (ℕ → Bool) → ℕ → ℕ → FaultKind → Bool
-pair_holds image used group k IllegalPair = is_present (fields_of image) group k && (pair_of (map_of image group) k == 2)
+pair_holds image used group k IllegalPair =
+    is_present (fields_of image) group k && (pair_of (map_of image group) k == 2)
 pair_holds image used group k UsedMarkedFree =
     is_present (fields_of image) group k && is_free_at (map_of image group) k && used (map_number group + k)
 pair_holds image used group k UnusedMarkedBusy =
@@ -70,7 +76,8 @@ fault_of block kind = record { kind = kind; block = block; offset = 0; level = 0
 
 -- the faults of a group: of its map, and then of each of its pairs
 abbrev pub pair_faults : List ℕ → (ℕ → Bool) → ℕ → ℕ → List Fault
-pair_faults image used group k = map (fault_of (map_number group + k)) (filter (pair_holds image used group k) pair_kinds)
+pair_faults image used group k =
+    map (fault_of (map_number group + k)) (filter (pair_holds image used group k) pair_kinds)
 
 abbrev pub group_faults : List ℕ → (ℕ → Bool) → ℕ → List Fault
 group_faults image used group =

@@ -1,6 +1,9 @@
--- Which texts and which bytes are those of a canonical number, as tests. A number's digits can be read off both, so that
+-- Which texts and which bytes are those of a canonical number, as tests. A number's digits can be read off both, so
+-- that
 -- only sign and exponent are to be tried.
-use Rattle.std.specs.Prelude.{ℕ, ◌-◌, Bool, true, false, ◌&&◌, ◌||◌, ◌==◌, nat_lt, nat_le, ℤ, pos, negsuc, List, [], ◌∷◌, ◌++◌, length, take, drop, map, filter, flat_map, slice_index, bytes_eq, reverse, if◌then◌else◌}
+use Rattle.std.specs.Prelude.{ℕ, ◌-◌, Bool, true, false, ◌&&◌, ◌||◌, ◌==◌, nat_lt, nat_le, ℤ, pos, negsuc, List, []}
+use Rattle.std.specs.Prelude.{◌∷◌, ◌++◌, length, take, drop, map, filter, flat_map, slice_index, bytes_eq, reverse}
+use Rattle.std.specs.Prelude.{if◌then◌else◌}
 use Rattle.std.specs.List.{list_all, list_any, range_with_len}
 use Rattle.std.specs.Char.{is_ascii_digit}
 use Rattle.m_number.specs.Numeral.{Numeral}
@@ -40,7 +43,8 @@ significant text = reverse (without_zeros (reverse (without_zeros (map (λ b. b 
 unfoldable pub is_number_text : List ℕ → Bool
 is_number_text text = list_any (λ n. bytes_eq (text_of n) text) (numbers_with (significant text))
 
--- the digits in the packed bytes of a number of this sign: those behind the first byte, and for a negative number before
+-- the digits in the packed bytes of a number of this sign: those behind the first byte, and for a negative number
+-- before
 -- the last
 abbrev pub packed_digits : List ℕ → List ℕ
 packed_digits bytes =

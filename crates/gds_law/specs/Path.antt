@@ -1,6 +1,8 @@
--- Paths: the records that lead from the directory's root to a block. Which paths are kept when a file is read, and in which
+-- Paths: the records that lead from the directory's root to a block. Which paths are kept when a file is read, and in
+-- which
 -- order.
-use Rattle.std.specs.Prelude.{◌≡◌, ℕ, ◌-◌, ◌<◌, ◌==◌, ◌⊎◌, ◌↔◌, List, [], ◌∷◌, length, take, Contains, Option, None, Some, find, option_map, option_and_then, if◌then◌else◌}
+use Rattle.std.specs.Prelude.{◌≡◌, ℕ, ◌-◌, ◌<◌, ◌==◌, ◌⊎◌, ◌↔◌, List, [], ◌∷◌, length, take, Contains, Option, None}
+use Rattle.std.specs.Prelude.{Some, find, option_map, option_and_then, if◌then◌else◌}
 use Rattle.std.specs.List.Sorted.{IsStrictlySortedBy}
 use Rattle.std.specs.Ordering.{nat_cmp, ordering_then}
 use Rattle.std.specs.Cmp.Lexicographic.{slice_cmp}
@@ -32,7 +34,8 @@ visit_from image v ((block, offset) ∷ steps) =
 abbrev pub visit_at : List ℕ → Steps → Option Visit
 visit_at image path = visit_from image directory_root path
 
--- BlockReading order compares the offsets from the front, and puts a path before its extensions. Two paths that begin alike go
+-- Reading order compares the offsets from the front, and puts a path before its extensions. Two paths that begin
+-- alike go
 -- on in one block, so the blocks never decide.
 abbrev pub step_cmp : ℕ × ℕ → ℕ × ℕ → Ordering
 step_cmp a b = ordering_then (nat_cmp a.1 b.1) (nat_cmp a.0 b.0)

@@ -1,5 +1,6 @@
 -- What can be wrong with a record whose size is right, kind by kind, and where its pointer leads.
-use Rattle.std.specs.Prelude.{ℕ, ◌-◌, ◌^◌, ◌%◌, ◌==◌, Bool, true, false, ◌&&◌, ◌||◌, not, nat_lt, nat_le, List, [], ◌∷◌, length, filter, Option, None, Some, is_none, bytes_eq, if◌then◌else◌}
+use Rattle.std.specs.Prelude.{ℕ, ◌-◌, ◌^◌, ◌%◌, ◌==◌, Bool, true, false, ◌&&◌, ◌||◌, not, nat_lt, nat_le, List, [], ◌∷◌}
+use Rattle.std.specs.Prelude.{length, filter, Option, None, Some, is_none, bytes_eq, if◌then◌else◌}
 use Rattle.std.specs.List.{list_any}
 use Rattle.std.specs.Option.{option_map_or}
 use Rattle.std.specs.Ordering.{nat_cmp, is_lt}
@@ -8,11 +9,18 @@ use Rattle.gds_header.specs.Kinds.{through_first}
 use Rattle.m_key.specs.KeyEnd.{shared}
 use Rattle.gds_law.specs.Kinds.{ends, record_kinds}
 use Rattle.gds_law.specs.Visit.{TreeRole, directory, global, Visit, Child, global_root}
-use Rattle.gds_law.specs.BlockReading.{BlockReading, PlacedRecord, is_first, size_of, is_last, full_of, key_end, key_of, rest_of, points, pointer_of}
+use Rattle.gds_law.specs.BlockReading.{BlockReading, PlacedRecord, is_first, size_of, is_last, full_of, key_end, key_of}
+use Rattle.gds_law.specs.BlockReading.{rest_of, points, pointer_of}
 use Rattle.m_key.specs.KeyParts.{name_part, subscript_parts}
 use Rattle.gds_law.specs.Key.{key_fault}
 use Rattle.gds_law.specs.declared.kind.FaultKind.{FaultKind}
-use Rattle.gds_law.specs.declared.kind.FaultKind.TheVariants.{StarSize, StarCount, FirstCount, CountTooLarge, KeyTooLong, KeyWithoutEnd, WrongCount, KeyOutOfOrder, BadName, TooManySubscripts, BadNumber, BadString, NullSubscript, DirectorySubscript, WrongGlobal, KeyAboveBound, KeyBelowBound, RestNotPointer, ValueTooLong, PointerNotPositive, PointerTooLarge, PointerToMap}
+use Rattle.gds_law.specs.declared.kind.FaultKind.TheVariants.{StarSize, StarCount, FirstCount, CountTooLarge}
+use Rattle.gds_law.specs.declared.kind.FaultKind.TheVariants.{KeyTooLong, KeyWithoutEnd, WrongCount, KeyOutOfOrder}
+use Rattle.gds_law.specs.declared.kind.FaultKind.TheVariants.{BadName, TooManySubscripts, BadNumber, BadString}
+use Rattle.gds_law.specs.declared.kind.FaultKind.TheVariants.{NullSubscript, DirectorySubscript, WrongGlobal}
+use Rattle.gds_law.specs.declared.kind.FaultKind.TheVariants.{KeyAboveBound, KeyBelowBound, RestNotPointer}
+use Rattle.gds_law.specs.declared.kind.FaultKind.TheVariants.{ValueTooLong, PointerNotPositive, PointerTooLarge}
+use Rattle.gds_law.specs.declared.kind.FaultKind.TheVariants.{PointerToMap}
 
 -- bytes compared one after another
 abbrev pub is_below : List ℕ → List ℕ → Bool

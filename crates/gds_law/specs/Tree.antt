@@ -1,5 +1,6 @@
 -- The faults of the trees of a file, in reading order.
-use Rattle.std.specs.Prelude.{ℕ, ◌-◌, ◌==◌, Bool, true, false, ◌&&◌, List, [], ◌∷◌, length, drop, flat_map, if◌then◌else◌}
+use Rattle.std.specs.Prelude.{ℕ, ◌-◌, ◌==◌, Bool, true, false, ◌&&◌, List, [], ◌∷◌, length, drop, flat_map}
+use Rattle.std.specs.Prelude.{if◌then◌else◌}
 use Rattle.std.specs.List.{list_any}
 use Rattle.std.specs.Option.{option_map_or}
 use Rattle.gds_block.specs.Block.{level_of}
@@ -22,13 +23,21 @@ is_among paths path = list_any (same_steps path) paths
 -- the fault of a reached path that isn't kept, which stands at the path's last record
 abbrev pub double_at : List ℕ → Steps → (ℕ × ℕ) → Fault
 double_at image path (block, offset) =
-    record { kind = DoublyAllocated; block = block; offset = offset; level = level_of (block_of image block); path = front_of path }
+    record {
+      kind = DoublyAllocated;
+      block = block;
+      offset = offset;
+      level = level_of (block_of image block);
+      path =
+          front_of path;
+    }
 
 abbrev pub double_faults : List ℕ → Steps → List (ℕ × ℕ) → List Fault
 double_faults image path [] = []
 double_faults image path (step ∷ steps) = double_at image path step ∷ []
 
--- the faults that stand where a path would in reading order: those of its block where it is kept, and else that its last
+-- the faults that stand where a path would in reading order: those of its block where it is kept, and else that its
+-- last
 -- record points to a block in which an earlier path ends
 abbrev pub faults_at : List ℕ → List Steps → Steps → List Fault
 faults_at image kept path =

@@ -1,6 +1,6 @@
-//! The law of faults: what can be wrong with a database file, which faults stand in it and in which order, and
-//! what a file without faults stands for. All of it is said over the file's bytes, apart from how a program
-//! would find it. Beside it stand the types in which faults are told.
+//! The law of faults: what can be wrong with a database file, which faults stand in it and in which order. All of it
+//! is said over the file's bytes, apart from how a program would find it. Beside it stand the types in which faults are
+//! told, and what a call that tells them leaves of a sink.
 #![tactic(auto)]
 
 mod fault;
@@ -11,7 +11,6 @@ mod path;
 mod path_laws;
 mod role;
 mod sink;
-mod sound_laws;
 mod visit;
 
 pub use fault::Fault;
@@ -22,8 +21,4 @@ pub use path::Path;
 pub use path_laws::{fault_lists, kept_paths};
 pub use role::Role;
 pub use sink::{FaultSink, SinkTrouble};
-pub use sound_laws::{one_map, readings_agree};
 pub use visit::Visit;
-
-#[cfg(test)]
-mod tests;

@@ -1,9 +1,10 @@
 ghost use Rattle.std.specs.Prelude.{◌≡◌, [], ◌∷◌, codes};
 ghost use Rattle.gds_law.specs.Line.{line_of};
-ghost use Rattle.gds_law.specs.declared.kind.FaultKind.TheVariants.{LongFile, WrongLevel, TransactionTooNew, DoublyAllocated, IllegalPair};
+ghost use Rattle.gds_law.specs.declared.kind.FaultKind.TheVariants.{LongFile, WrongLevel, TransactionTooNew};
+ghost use Rattle.gds_law.specs.declared.kind.FaultKind.TheVariants.{DoublyAllocated, IllegalPair};
 
-/// How the lines of faults read: of the file, of a block of a tree with its path, and of a local bitmap and what it says
-/// of a block.
+/// How the lines of faults read: of the file, of a block of a tree with its path, and of a local bitmap and what it
+/// says of a block.
 pub fn lines()
     ensures file { line_of (record { kind = LongFile; block = 0; offset = 0; level = 0; path = [] })
         ≡ codes "DBFGTBC file" }

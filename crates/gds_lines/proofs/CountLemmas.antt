@@ -1,9 +1,9 @@
 -- The count of what was taken, and what the source has left, from one moment to the next.
-use Rattle.std.proofs.Common.{◌≡◌, ℕ, ◌+◌, ◌<◌, ◌≤◌, ◌↔◌, List, [], ◌++◌, length, take, Option, None, Some, refl, sym}
+use Rattle.std.proofs.Common.{◌≡◌, ℕ, ◌+◌, ◌<◌, ◌≤◌, ◌↔◌, List, [], ◌++◌, length, take, Option, None, Some, IfSome, refl, sym}
 use Rattle.std.proofs.Common.{ap, ◌∙◌, arith, append_assoc, length-append, length-take-le}
 use Rattle.host_model.specs.Files.{Gives}
 use Rattle.host_model.specs.Told.{TellsOn}
-use Rattle.host_model.proofs.FrameLemmas.{TellsOn-same, TellsOn-some, TellsOn-then, TellsOn-weaker}
+use Rattle.host_model.proofs.FrameLemmas.{TellsOn-same, TellsOn-then, TellsOn-weaker}
 use Rattle.std.specs.Io.KnownBytes.{prepend_known}
 use Rattle.gds_lines.specs.declared.TheConstants.{INPUT_LIMIT}
 use Rattle.gds_lines.specs.LinesState.{Counts, IsAboveLimit, LinesState, Reads}
@@ -71,3 +71,10 @@ pub reads_above : (input rest : List ℕ) (lines : LinesState)
 reads_above input rest lines reads tells =
     let counts : Counts 0 lines.taken input rest = rw tells at reads in
     (λ above. omega (arith, counts.counted, above), λ above. omega (arith, counts.counted, above))
+
+-- An input of which more was taken than the limit is longer than that.
+pub input_above : (input untaken : Option (List ℕ)) (taken : ℕ)
+    → TellsOn input untaken (Counts 0 taken) → INPUT_LIMIT < taken → IfSome input (λ text. INPUT_LIMIT < length text)
+input_above None untaken taken counts above = tt
+input_above (Some text) None taken counts above = absurd counts
+input_above (Some text) (Some rest) taken counts above = omega (arith, counts.counted, above)

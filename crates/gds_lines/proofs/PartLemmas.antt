@@ -30,7 +30,8 @@ module _ {X : Type 0} (xs : List X) where
   pub slice_range-rest : (a b n : ℕ) → n ≤ b - a → slice_range xs (a + n) b ≡ drop n (slice_range xs a b)
   slice_range-rest a b n h =
       let e : n + (b - (a + n)) ≡ b - a = omega arith in
-      ap (take (b - (a + n))) (sym (drop-drop n a xs)) ∙ sym (drop-take n (b - (a + n)) (drop a xs)) ∙ ap (λ k. drop n (take k (drop a xs))) e
+      ap (take (b - (a + n))) (sym (drop-drop n a xs)) ∙ sym (drop-take n (b - (a + n)) (drop a xs))
+      ∙ ap (λ k. drop n (take k (drop a xs))) e
 
   -- a part that is cut off at m elements
   pub slice_range-cut : (a b m : ℕ) → slice_range xs a (a + min (b - a) m) ≡ take m (slice_range xs a b)
@@ -39,7 +40,8 @@ module _ {X : Type 0} (xs : List X) where
       ap (λ k. take k (drop a xs)) e ∙ sym (take-take_min (drop a xs) m (b - a))
 
 -- A part that goes on in what was written behind it
-pub slice_range-grown : {X : Type 0} (xs ys : List X) (a b n : ℕ) → a ≤ b → take b ys ≡ take b xs → slice_range ys a (b + n) ≡ slice_range xs a b ++ take n (drop b ys)
+pub slice_range-grown : {X : Type 0} (xs ys : List X) (a b n : ℕ) → a ≤ b → take b ys ≡ take b xs
+    → slice_range ys a (b + n) ≡ slice_range xs a b ++ take n (drop b ys)
 slice_range-grown {X} xs ys a b n low same =
     let e : b + n - a ≡ (b - a) + n = omega arith in
     let k : a + (b - a) ≡ b = omega arith in
@@ -53,9 +55,12 @@ slice_range-grown {X} xs ys a b n low same =
     front zs = between_is zs a b
 
 -- what is given of bytes before a line end
-pub take-given_len : (m : ℕ) (line : List ℕ) → take (min (length (strip_carriage_return line)) m) line ≡ take m (strip_carriage_return line)
+pub take-given_len : (m : ℕ) (line : List ℕ)
+    → take (min (length (strip_carriage_return line)) m) line ≡ take m (strip_carriage_return line)
 take-given_len m line =
-    elim (eqb (get_or line (length line - 1) 0) 13) as (λ b. take (min (length (cond b (take (length line - 1) line) line)) m) line ≡ take m (cond b (take (length line - 1) line) line)) [
+    elim (eqb (get_or line (length line - 1) 0) 13) as
+    (λ b. take (min (length (cond b (take (length line - 1) line) line)) m) line ≡ take m
+    (cond b (take (length line - 1) line) line)) [
       | true ↦ rw (length-take-le (length line - 1) line (omega arith)) (sym (take-take_min line m (length line - 1)))
       | false ↦ take_min_length
     ]

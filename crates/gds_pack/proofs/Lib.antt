@@ -1,7 +1,7 @@
-pub mod SizeLaws
-pub mod PackLaws
-pub mod ReadLaws
-pub mod UnpackLaws
-pub mod CutLaws
-pub mod BoundLaws
-pub mod ListLaws
+pub mod SizeLemmas
+pub mod PackLemmas
+pub mod ReadLemmas
+pub mod UnpackLemmas
+pub mod CutLemmas
+pub mod BoundLemmas
+pub mod ListLemmas

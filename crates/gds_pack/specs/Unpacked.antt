@@ -1,13 +1,9 @@
 -- What the bytes of a block say of its entries.
-use Rattle.std.specs.Prelude.{ℕ, ◌≡◌, ◌≤◌, ◌+◌, Bool, true, false, ◌&&◌, ◌||◌, ◌==◌, nat_lt, nat_le, if◌then◌else◌, List, [], ◌∷◌, ◌++◌, length, take, drop, Option, Some, None, option_map, option_and_then}
+use Rattle.std.specs.Prelude.{ℕ, ◌≡◌, ◌≤◌, ◌+◌, Bool, ◌&&◌, ◌||◌, ◌==◌, nat_lt, nat_le, if◌then◌else◌, List, [], ◌∷◌, ◌++◌, length, take, drop, Option, Some, None, option_map, option_and_then}
 use Rattle.gds_block.specs.Block.{level_of, used_of}
-use Rattle.gds_block.specs.Record.{Record, records_of}
+use Rattle.gds_block.specs.Record.{Record, full_of, records_of}
 use Rattle.gds_block.specs.Item.{Item}
 use Rattle.m_key.specs.KeyEnd.{key_len}
-
--- In a block above level 0 a record of size 8 that ends at the used count is the star.
-abbrev pub is_star : ℕ → ℕ → Record → Bool
-is_star level used r = nat_lt 0 level && (length r.body == 4) && (r.offset + 4 + length r.body == used)
 
 -- the item whose key and rest have these bytes together, where the key has an end and at most 255 bytes
 abbrev pub item_of : List ℕ → Option Item
@@ -18,23 +14,29 @@ item_of full =
 abbrev pub is_count : List ℕ → ℕ → Bool
 is_count previous count = nat_lt count (length previous) || (count == 0)
 
--- what a record says behind a key: the star's item has no key, any other's begins with bytes of the key before
-abbrev pub read_record : Bool → List ℕ → Record → Option Item
-read_record true previous r = if r.count == 0 then Some (record { key = []; rest = r.body }) else None
-read_record false previous r = if is_count previous r.count then item_of (take r.count previous ++ r.body) else None
+-- what a record with a key says behind the key before it
+abbrev pub leaf_item : List ℕ → Record → Option Item
+leaf_item previous r = if is_count previous r.count then item_of (full_of previous r) else None
 
--- So many bytes of a record's body belong to its key, and it can be read.
-pub record IsKeyPart (previous : List ℕ) (r : Record) (n : ℕ) : Type 0 where
-  pub count_within : r.count ≤ length previous
-  pub within : n ≤ length r.body
-  pub short : r.count + n ≤ 255
-  pub read : read_record false previous r ≡ Some (record { key = take r.count previous ++ take n r.body; rest = drop n r.body })
+-- the same in an index block, where the rest is a pointer of 4 bytes
+abbrev pub index_item : List ℕ → Record → Option Item
+index_item previous r = option_and_then (λ i. if length i.rest == 4 then Some i else None) (leaf_item previous r)
 
--- what these records of a block of a level and a used count say behind a key, unless one of them can't be read
-abbrev pub read_records : ℕ → ℕ → List ℕ → List Record → Option (List Item)
-read_records level used previous [] = Some []
-read_records level used previous (r ∷ rs) =
-    option_and_then (λ i. option_map (λ is. i ∷ is) (read_records level used i.key rs)) (read_record (is_star level used r) previous r)
+-- the star: a record of size 8 and count 0, which has no key and a pointer
+abbrev pub star_item : Record → Option Item
+star_item r = if (length r.body == 4) && (r.count == 0) then Some (record { key = []; rest = r.body }) else None
+
+-- what the records of a level-0 block say behind a key, unless one of them can't be read
+abbrev pub leaf_items : List ℕ → List Record → Option (List Item)
+leaf_items previous [] = Some []
+leaf_items previous (r ∷ rs) = option_and_then (λ i. option_map (λ is. i ∷ is) (leaf_items i.key rs)) (leaf_item previous r)
+
+-- what those of an index block say, of which the last is the star
+abbrev pub index_items : List ℕ → List Record → Option (List Item)
+index_items previous [] = None
+index_items previous (r ∷ []) = option_map (λ i. i ∷ []) (star_item r)
+index_items previous (r ∷ s ∷ rs) =
+    option_and_then (λ i. option_map (λ is. i ∷ is) (index_items i.key (s ∷ rs))) (index_item previous r)
 
 -- where records end of which the first begins at this offset
 abbrev pub end_of : ℕ → List Record → ℕ
@@ -45,5 +47,12 @@ end_of at (r ∷ rs) = end_of (r.offset + 4 + length r.body) rs
 unfoldable pub entries_of : List ℕ → Option (List Item)
 entries_of block =
     if end_of 16 (records_of block) == used_of block
-    then read_records (level_of block) (used_of block) [] (records_of block)
+    then (if level_of block == 0 then leaf_items [] (records_of block) else index_items [] (records_of block))
     else None
+
+-- So many bytes of a record's body belong to its key, and it can be read.
+pub record IsKeyPart (previous : List ℕ) (r : Record) (n : ℕ) : Type 0 where
+  pub count_within : r.count ≤ length previous
+  pub within : n ≤ length r.body
+  pub short : r.count + n ≤ 255
+  pub read : leaf_item previous r ≡ Some (record { key = take r.count previous ++ take n r.body; rest = drop n r.body })

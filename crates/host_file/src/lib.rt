@@ -10,7 +10,5 @@ mod place;
 mod stdin;
 
 pub use host::FileHost;
+pub use place::read_full;
 pub use stdin::StdinSource;
-
-#[cfg(test)]
-mod tests;

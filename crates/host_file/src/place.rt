@@ -145,8 +145,8 @@ fn write_at<F: Write + Seek>(file: &mut F, at: u64, bytes: &[u8]) -> io::Result<
     file.write_all(bytes)
 }
 
-/// Reads until `out` is full or a read gives nothing.
-pub(crate) fn read_full<F: Read>(file: &mut F, out: &mut [u8]) -> io::Result<usize>
+/// Reads until `out` is full or a read gives nothing, and answers how many bytes came.
+pub fn read_full<F: Read>(file: &mut F, out: &mut [u8]) -> io::Result<usize>
     ensures { IfOk result (λ n. n ≤ length out.old) }
 {
     let mut done = 0;

@@ -31,8 +31,10 @@ or-both true b p q = p
 or-both false true p q = q
 or-both false false p q = refl
 
-pub covered_by_neither : (i : ℕ) (ranges : List Range) (range : Range) → is_covered i ranges ≡ false → is_within i range ≡ false → is_covered i (ranges ++ range ∷ []) ≡ false
-covered_by_neither i ranges range p q = list_any-append (is_within i) ranges (range ∷ []) ∙ or-both (is_covered i ranges) (is_within i range) p q
+pub covered_by_neither : (i : ℕ) (ranges : List Range) (range : Range) → is_covered i ranges ≡ false
+    → is_within i range ≡ false → is_covered i (ranges ++ range ∷ []) ≡ false
+covered_by_neither i ranges range p q =
+    list_any-append (is_within i) ranges (range ∷ []) ∙ or-both (is_covered i ranges) (is_within i range) p q
 
 pub not_within : (i : ℕ) (range : Range) → (i < range.at) ⊎ (range.at + range.len ≤ i) → is_within i range ≡ false
 not_within i range out = grind (arith, nat_tests)
@@ -47,7 +49,8 @@ nat_lt-is i n lt = grind (arith, nat_tests)
 abbrev pub byte_before : Drive → Range → List ℕ → ℕ → ℕ
 byte_before drive range bytes i = cond (is_within i range) (get_or drive.stable i 0) (get_or bytes i 0)
 
-module _ (drive : Drive) (sound : IsSound drive) (at : ℕ) (bytes : List ℕ) (done : Bool) (c : List ℕ) (left : Leaves (wrote at bytes done drive) c) where
+module _ (drive : Drive) (sound : IsSound drive) (at : ℕ) (bytes : List ℕ) (done : Bool) (c : List ℕ)
+    (left : Leaves (wrote at bytes done drive) c) where
   abbrev write_range : Range
   write_range = record { at = at; len = length bytes }
 
@@ -62,19 +65,31 @@ module _ (drive : Drive) (sound : IsSound drive) (at : ℕ) (bytes : List ℕ) (
 
   pub before_write-left : Leaves drive before_write
   before_write-left = record {
-    no_shorter = omega (arith, left.no_shorter, sound.stable, farthest-le (length drive.stable) drive.ranges, length-made (byte_before drive write_range c) write_size);
+    no_shorter =
+        omega (
+          arith,
+          left.no_shorter,
+          sound.stable,
+          farthest-le (length drive.stable) drive.ranges,
+          length-made
+              (byte_before drive write_range c) write_size,
+        );
     no_longer = omega (arith, length-made (byte_before drive write_range c) write_size);
     stays = λ i lt e.
-        let here : i < write_size = omega (arith, left.no_shorter, sound.stable, farthest-le (length drive.stable) drive.ranges) in
+        let here : i < write_size =
+        omega (arith, left.no_shorter, sound.stable, farthest-le (length drive.stable) drive.ranges) in
         get_or-made (byte_before drive write_range c) write_size i here
-        ∙ cond-either (is_within i write_range) (get_or drive.stable i 0) (get_or c i 0) (get_or drive.stable i 0) (λ _. refl)
+        ∙ cond-either (is_within i write_range) (get_or drive.stable i 0) (get_or c i 0) (get_or drive.stable i 0)
+        (λ _. refl)
         (λ out. left.stays i lt (covered_by_neither i drive.ranges write_range e out));
   }
 
-  unchanged : (i : ℕ) → i < length before_write → (i < at) ⊎ (at + length bytes ≤ i) → get_or c i 0 ≡ get_or before_write i 0
+  unchanged : (i : ℕ) → i < length before_write → (i < at) ⊎ (at + length bytes ≤ i)
+      → get_or c i 0 ≡ get_or before_write i 0
   unchanged i lt out =
       let here : i < write_size = omega (arith, length-made (byte_before drive write_range c) write_size) in
-      sym (get_or-made (byte_before drive write_range c) write_size i here ∙ ap (λ (b : Bool). cond b (get_or drive.stable i 0) (get_or c i 0)) (not_within i write_range out))
+      sym (get_or-made (byte_before drive write_range c) write_size i here
+      ∙ ap (λ (b : Bool). cond b (get_or drive.stable i 0) (get_or c i 0)) (not_within i write_range out))
 
   pub before_write-torn : Torn at (length bytes) before_write c
   before_write-torn = record {
@@ -88,7 +103,8 @@ module _ (drive : Drive) (sound : IsSound drive) (at : ℕ) (bytes : List ℕ) (
 abbrev pub byte_uncut : Drive → ℕ → List ℕ → ℕ → ℕ
 byte_uncut drive n bytes i = cond (nat_lt i n) (get_or bytes i 0) (get_or drive.stable i 0)
 
-module _ (drive : Drive) (sound : IsSound drive) (n : ℕ) (done : Bool) (c : List ℕ) (left : Leaves (shortened n done drive) c) where
+module _ (drive : Drive) (sound : IsSound drive) (n : ℕ) (done : Bool) (c : List ℕ)
+    (left : Leaves (shortened n done drive) c) where
   abbrev cut_size : ℕ
   cut_size = max (length c) drive.least
 
@@ -98,12 +114,19 @@ module _ (drive : Drive) (sound : IsSound drive) (n : ℕ) (done : Bool) (c : Li
   pub before_cut-left : Leaves drive before_cut
   before_cut-left = record {
     no_shorter = omega (arith, length-made (byte_uncut drive n c) cut_size);
-    no_longer = omega (arith, left.no_longer, sound.stable, farthest-le (length drive.stable) drive.ranges, length-made (byte_uncut drive n c) cut_size);
+    no_longer = omega (
+      arith,
+      left.no_longer,
+      sound.stable,
+      farthest-le (length drive.stable) drive.ranges,
+      length-made (byte_uncut drive n c) cut_size,
+    );
     stays = λ i lt e.
         let here : i < cut_size = omega arith in
         get_or-made (byte_uncut drive n c) cut_size i here
         ∙ cond-either (nat_lt i n) (get_or c i 0) (get_or drive.stable i 0) (get_or drive.stable i 0)
-        (λ is. let below : i < min drive.least n = omega (arith, nat_lt-true i n is) in left.stays i below e) (λ _. refl);
+        (λ is. let below : i < min drive.least n = omega (arith, nat_lt-true i n is) in left.stays i below e)
+        (λ _. refl);
   }
 
   pub before_cut-cut : Cut n before_cut c
@@ -112,7 +135,8 @@ module _ (drive : Drive) (sound : IsSound drive) (n : ℕ) (done : Bool) (c : Li
     no_longer = omega (arith, length-made (byte_uncut drive n c) cut_size);
     below = λ i lt here.
         let within : i < cut_size = omega arith in
-        sym (get_or-made (byte_uncut drive n c) cut_size i within ∙ ap (λ (b : Bool). cond b (get_or c i 0) (get_or drive.stable i 0)) (nat_lt-is i n lt));
+        sym (get_or-made (byte_uncut drive n c) cut_size i within
+        ∙ ap (λ (b : Bool). cond b (get_or c i 0) (get_or drive.stable i 0)) (nat_lt-is i n lt));
   }
 
 -- of a settled file a crash leaves what a read gives

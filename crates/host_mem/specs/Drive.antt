@@ -38,7 +38,8 @@ most drive = farthest (length drive.stable) drive.ranges
 pub record Leaves (drive : Drive) (bytes : List ℕ) : Type 0 where
   pub no_shorter : drive.least ≤ length bytes
   pub no_longer : length bytes ≤ most drive
-  pub stays : (i : ℕ) → i < drive.least → is_covered i drive.ranges ≡ false → slice_index bytes i ≡ slice_index drive.stable i
+  pub stays : (i : ℕ) → i < drive.least → is_covered i drive.ranges ≡ false
+      → slice_index bytes i ≡ slice_index drive.stable i
 
 -- A write. One that failed left what a read gives as it was; its range counts all the same.
 abbrev pub wrote : ℕ → List ℕ → Bool → Drive → Drive

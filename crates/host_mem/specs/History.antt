@@ -55,7 +55,8 @@ LeftIn (Say number bytes) state c = (n : ℕ) × StateLeaves (record state { sai
 -- what a crash since the moment t, and before the last of these steps was made, might have left
 abbrev pub LeftBefore : State → List Step → ℕ → Contents → Type 0
 LeftBefore state [] t c = ⊥
-LeftBefore state (step ∷ steps) t c = ((t < number_of step) × LeftIn step state c) ⊎ LeftBefore (apply step state) steps t c
+LeftBefore state (step ∷ steps) t c =
+    ((t < number_of step) × LeftIn step state c) ⊎ LeftBefore (apply step state) steps t c
 
 -- What a crash at the moment t or since might have left: what one now may leave, or where t is past, what one might
 -- have left before a later step.
@@ -70,4 +71,5 @@ NumberedTo moment (step ∷ steps) = (number_of step ≤ moment) × NumberedTo m
 
 -- what the crash of this choice leaves
 abbrev pub crashed_state : ℕ → State → Contents
-crashed_state choice state = record { db = crashed choice state.db; images = crashed choice state.images; said = state.said }
+crashed_state choice state =
+    record { db = crashed choice state.db; images = crashed choice state.images; said = state.said }

@@ -24,7 +24,12 @@ with_step (Some step) steps = steps ++ step ∷ []
 -- The call was the next one, and stands at the record's end, with its step.
 pub record Recorded (call : Call) (step : Option Step) (old new : Log) : Type 0 where
   pub numbered : old.moment < 2 ^ 64 - 1
-  pub after : new ≡ record old { calls = old.calls ++ call ∷ []; steps = with_step step old.steps; moment = old.moment + 1 }
+  pub after : new ≡ record old {
+    calls = old.calls ++ call ∷ [];
+    steps = with_step step old.steps;
+    moment =
+        old.moment + 1;
+  }
 
 -- A call was made for which there was no memory, or no number left.
 abbrev pub starving : Log → Log
@@ -35,7 +40,8 @@ abbrev pub FailsWhere : {T E : Type 0} → Type 0 → Result T E → Log → Log
 FailsWhere listed result old new = IsErr result ↔ (listed ⊎ Rose old.starved new.starved)
 
 -- what a call leaves of the record: it stands there, unless memory was short
-pub record Logged {T E : Type 0} (listed : Type 0) (call : Call) (step : Option Step) (result : Result T E) (old new : Log) : Type 0 where
+pub record Logged {T E : Type 0} (listed : Type 0) (call : Call) (step : Option Step) (result : Result T E)
+    (old new : Log) : Type 0 where
   pub fails : FailsWhere listed result old new
   pub record_grows : Recorded call step old new ⊎ (new ≡ starving old)
   pub later : old.moment ≤ new.moment

@@ -89,7 +89,8 @@ reads_db (CallSync number file) = false
 reads_db (CallSay number len) = false
 
 -- What a call leaves: nothing is new but the record of it, with the step that it made, and the counts.
-pub record Called {T E : Type 0} (listed : Type 0) (call : Call) (step : Option Step) (result : Result T E) (old new : Memory) : Type 0 where
+pub record Called {T E : Type 0} (listed : Type 0) (call : Call) (step : Option Step) (result : Result T E)
+    (old new : Memory) : Type 0 where
   pub first : new.first ≡ old.first
   pub log : Logged listed call step result old.log new.log
   pub failures : new.failures ≡ (if is_ok result then old.failures else failed_by call old.failures)

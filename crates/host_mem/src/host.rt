@@ -16,7 +16,8 @@ use host_model::{FileNo, Host, HostFailed};
 use std::alloc::{AllocError, Global};
 use std::marker::Model;
 
-/// A host in memory that tells everything, and fails the calls whose clock numbers it was given, and those past its fuse.
+/// A host in memory that tells everything, and fails the calls whose clock numbers it was given, and those past its
+/// fuse.
 #[derive(Drop)]
 pub struct MemHost {
     memory: Memory,
@@ -81,12 +82,17 @@ impl MemHost {
         self.memory.reads()
     }
 
-    /// A host with what a crash leaves now, and no call made. For both files, by the remainder of `choice` divided by 4:
-    /// 0 loses what isn't stable, 1 keeps it all; 2 leaves the length of 0 and 3 that of 1, and FF hex wherever a
+    /// A host with what a crash leaves now, and no call made. For both files, by the remainder of `choice` divided by
+    /// 4: 0 loses what isn't stable, 1 keeps it all; 2 leaves the length of 0 and 3 that of 1, and FF hex wherever a
     /// crash may leave anything.
     pub fn crash(self, choice: u64) -> Result<MemHost, AllocError>
-        ensures exactly { IfOk result (λ host. host ≡ record { memory = memory_of (crashed_state choice (state_of self.memory)); failing = []; fuse = None }) }
-        ensures allowed { IfOk result (λ host. left_since self.memory self.memory.log.moment (contents_of host.memory)) }
+        ensures exactly { IfOk result (λ host. host ≡ record {
+          memory = memory_of (crashed_state choice (state_of self.memory));
+          failing = [];
+          fuse = None;
+        }) }
+        ensures allowed { IfOk result
+            (λ host. left_since self.memory self.memory.log.moment (contents_of host.memory)) }
     {
         let memory = self.memory.crash(choice)?;
         Ok(MemHost {
@@ -146,7 +152,8 @@ impl Host for MemHost {
         ensures fuse { self.new.fuse ≡ burnt self.old.fuse }
         ensures filled { OnOk result (out.new ≡ filled (file_of (contents_of self.old.memory) file) at out.old) }
         ensures unread { OnErr result (out.new ≡ out.old) }
-        ensures recorded { Called (IsToFail self.old) (Call.Read (counted self.old.memory.log.moment) file at (length out.old))
+        ensures recorded { Called (IsToFail self.old)
+            (Call.Read (counted self.old.memory.log.moment) file at (length out.old))
             None result self.old.memory self.new.memory }
     {
         let listed = self.begin();
@@ -155,16 +162,20 @@ impl Host for MemHost {
 
     fn write_at(&mut self, file: FileNo, at: u64, bytes: &[u8]) -> Result<(), HostFailed>
         requires { at ≤ length (file_of (contents_of self.old.memory) file) }
-        ensures told { Changes file (Writes at bytes.now result) (contents_of self.old.memory) (contents_of self.new.memory) }
+        ensures told { Changes file (Writes at bytes.now result) (contents_of self.old.memory)
+            (contents_of self.new.memory) }
         ensures crash { Follows (Changes file (Torn at (length bytes.now)))
-            (left_since self.old.memory self.old.memory.log.moment) (left_since self.new.memory self.new.memory.log.moment) }
+            (left_since self.old.memory self.old.memory.log.moment)
+            (left_since self.new.memory self.new.memory.log.moment) }
         ensures called { WasCalled moment_of failures_of left_by self.old self.new
             (left_since self.new.memory self.new.memory.log.moment) }
         ensures failed { OnErr result (Rose self.old.memory.failures.write self.new.memory.failures.write) }
         ensures failing { self.new.failing ≡ self.old.failing }
         ensures fuse { self.new.fuse ≡ burnt self.old.fuse }
-        ensures recorded { Called (IsToFail self.old) (Call.Write (counted self.old.memory.log.moment) file at (length bytes.now))
-            (Some (Write (counted self.old.memory.log.moment) file at bytes.now (is_ok result))) result self.old.memory self.new.memory }
+        ensures recorded { Called (IsToFail self.old)
+            (Call.Write (counted self.old.memory.log.moment) file at (length bytes.now))
+            (Some (Write (counted self.old.memory.log.moment) file at bytes.now (is_ok result))) result
+            self.old.memory self.new.memory }
     {
         let listed = self.begin();
         self.memory.write_at(file, at, bytes, listed)
@@ -174,14 +185,16 @@ impl Host for MemHost {
         requires { len ≤ length (file_of (contents_of self.old.memory) file) }
         ensures told { Changes file (Cuts len result) (contents_of self.old.memory) (contents_of self.new.memory) }
         ensures crash { Follows (Changes file (CutAt len))
-            (left_since self.old.memory self.old.memory.log.moment) (left_since self.new.memory self.new.memory.log.moment) }
+            (left_since self.old.memory self.old.memory.log.moment)
+            (left_since self.new.memory self.new.memory.log.moment) }
         ensures called { WasCalled moment_of failures_of left_by self.old self.new
             (left_since self.new.memory self.new.memory.log.moment) }
         ensures failed { OnErr result (Rose self.old.memory.failures.write self.new.memory.failures.write) }
         ensures failing { self.new.failing ≡ self.old.failing }
         ensures fuse { self.new.fuse ≡ burnt self.old.fuse }
         ensures recorded { Called (IsToFail self.old) (Call.Cut (counted self.old.memory.log.moment) file len)
-            (Some (Cut (counted self.old.memory.log.moment) file len (is_ok result))) result self.old.memory self.new.memory }
+            (Some (Cut (counted self.old.memory.log.moment) file len (is_ok result))) result self.old.memory
+            self.new.memory }
     {
         let listed = self.begin();
         self.memory.cut(file, len, listed)
@@ -189,7 +202,8 @@ impl Host for MemHost {
 
     fn sync(&mut self, file: FileNo) -> Result<(), HostFailed>
         ensures settled { OnOk result
-            (Settles file (file_of (contents_of self.old.memory) file) (left_since self.new.memory self.new.memory.log.moment)) }
+            (Settles file (file_of (contents_of self.old.memory) file)
+            (left_since self.new.memory self.new.memory.log.moment)) }
         ensures kept { ChangedNothing told_by moment_of failures_of left_by self.old self.new }
         ensures failed { OnErr result (Rose self.old.memory.failures.write self.new.memory.failures.write) }
         ensures failing { self.new.failing ≡ self.old.failing }
@@ -204,22 +218,26 @@ impl Host for MemHost {
     fn say(&mut self, bytes: &[u8]) -> Result<(), HostFailed>
         ensures said { Says bytes.now result (contents_of self.old.memory) (contents_of self.new.memory) }
         ensures crash { Follows (SaysSome bytes.now)
-            (left_since self.old.memory self.old.memory.log.moment) (left_since self.new.memory self.new.memory.log.moment) }
+            (left_since self.old.memory self.old.memory.log.moment)
+            (left_since self.new.memory self.new.memory.log.moment) }
         ensures called { WasCalled moment_of failures_of left_by self.old self.new
             (during (SaysSome bytes.now) (left_since self.old.memory self.old.memory.log.moment)) }
         ensures failed { OnErr result (Rose self.old.memory.failures.say self.new.memory.failures.say) }
         ensures failing { self.new.failing ≡ self.old.failing }
         ensures fuse { self.new.fuse ≡ burnt self.old.fuse }
         ensures recorded { Called (IsToFail self.old) (Call.Say (counted self.old.memory.log.moment) (length bytes.now))
-            (only_done result (Say (counted self.old.memory.log.moment) bytes.now)) result self.old.memory self.new.memory }
+            (only_done result (Say (counted self.old.memory.log.moment) bytes.now)) result self.old.memory
+            self.new.memory }
     {
         let listed = self.begin();
         self.memory.say(bytes, listed)
     }
 
-    ghost longer = { λ host t u c. LeftSince-longer host.memory.first host.memory.log.steps host.memory.log.moment t u c };
+    ghost longer = { λ host t u c.
+        LeftSince-longer host.memory.first host.memory.log.steps host.memory.log.moment t u c };
 
     ghost now_left = { λ host c. told_is_left host.memory.first host.memory.log.steps host.memory.log.moment c };
 
-    ghost said_stays = { λ host now c. told_said_stays host.memory.first host.memory.log.steps host.memory.log.moment now c };
+    ghost said_stays = { λ host now c.
+        told_said_stays host.memory.first host.memory.log.steps host.memory.log.moment now c };
 }

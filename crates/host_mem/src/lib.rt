@@ -16,6 +16,3 @@ pub use call::Call;
 pub use host::MemHost;
 pub use source::MemSource;
 pub use sure::SureHost;
-
-#[cfg(test)]
-mod tests;

@@ -23,7 +23,12 @@ impl Model for Log {
 
     ghost Value = { Log };
 
-    ghost view = { λ log. record { calls = log.calls.items; steps = map step_of log.steps.items; moment = log.clock; starved = log.starved } };
+    ghost view = { λ log. record {
+      calls = log.calls.items;
+      steps = map step_of log.steps.items;
+      moment = log.clock;
+      starved = log.starved;
+    } };
 
     ghost invariant = { λ log. log.starved ≤ log.clock };
 }

@@ -75,9 +75,11 @@ impl Memory {
         ensures bytes { AreBytes (contents_of self.old) }
         ensures told { contents_of self.new ≡ contents_of self.old }
         ensures crash { Stays (left_since self.old self.old.log.moment) (left_since self.new self.new.log.moment) }
-        ensures time { Elapses self.old.log.moment self.new.log.moment (left_since self.old) (left_since self.new) (left_since self.new self.new.log.moment) }
+        ensures time { Elapses self.old.log.moment self.new.log.moment (left_since self.old) (left_since self.new)
+            (left_since self.new self.new.log.moment) }
         ensures failures { NeverFell self.old.failures self.new.failures }
-        ensures called { Called (IsTrue listed) (Call.Len (counted self.old.log.moment) file) None result self.old self.new }
+        ensures called { Called (IsTrue listed) (Call.Len (counted self.old.log.moment) file) None result self.old
+            self.new }
     {
         self.parts.len(file, listed)
     }
@@ -89,14 +91,17 @@ impl Memory {
         out: &mut [u8],
         listed: bool,
     ) -> Result<usize, HostFailed>
-        ensures count { IfOk result (λ n. n ≡ min (length out.old) (length (file_of (contents_of self.old) file) - at)) }
+        ensures count { IfOk result
+            (λ n. n ≡ min (length out.old) (length (file_of (contents_of self.old) file) - at)) }
         ensures bytes { OnOk result (out.new ≡ filled (file_of (contents_of self.old) file) at out.old) }
         ensures unread { OnErr result (out.new ≡ out.old) }
         ensures told { contents_of self.new ≡ contents_of self.old }
         ensures crash { Stays (left_since self.old self.old.log.moment) (left_since self.new self.new.log.moment) }
-        ensures time { Elapses self.old.log.moment self.new.log.moment (left_since self.old) (left_since self.new) (left_since self.new self.new.log.moment) }
+        ensures time { Elapses self.old.log.moment self.new.log.moment (left_since self.old) (left_since self.new)
+            (left_since self.new self.new.log.moment) }
         ensures failures { NeverFell self.old.failures self.new.failures }
-        ensures called { Called (IsTrue listed) (Call.Read (counted self.old.log.moment) file at (length out.old)) None result self.old self.new }
+        ensures called { Called (IsTrue listed) (Call.Read (counted self.old.log.moment) file at (length out.old))
+            None result self.old self.new }
     {
         self.parts.read(file, at, out, listed)
     }
@@ -111,8 +116,10 @@ impl Memory {
         requires { at ≤ length (file_of (contents_of self.old) file) }
         ensures told { Changes file (Writes at bytes.now result) (contents_of self.old) (contents_of self.new) }
         ensures exactly { OnErr result (contents_of self.new ≡ contents_of self.old) }
-        ensures crash { Follows (Changes file (Torn at (length bytes.now))) (left_since self.old self.old.log.moment) (left_since self.new self.new.log.moment) }
-        ensures time { Elapses self.old.log.moment self.new.log.moment (left_since self.old) (left_since self.new) (left_since self.new self.new.log.moment) }
+        ensures crash { Follows (Changes file (Torn at (length bytes.now)))
+            (left_since self.old self.old.log.moment) (left_since self.new self.new.log.moment) }
+        ensures time { Elapses self.old.log.moment self.new.log.moment (left_since self.old) (left_since self.new)
+            (left_since self.new self.new.log.moment) }
         ensures failures { NeverFell self.old.failures self.new.failures }
         ensures called { Called (IsTrue listed) (Call.Write (counted self.old.log.moment) file at (length bytes.now))
             (Some (Write (counted self.old.log.moment) file at bytes.now (is_ok result))) result self.old self.new }
@@ -124,8 +131,10 @@ impl Memory {
         requires { len ≤ length (file_of (contents_of self.old) file) }
         ensures told { Changes file (Cuts len result) (contents_of self.old) (contents_of self.new) }
         ensures exactly { OnErr result (contents_of self.new ≡ contents_of self.old) }
-        ensures crash { Follows (Changes file (CutAt len)) (left_since self.old self.old.log.moment) (left_since self.new self.new.log.moment) }
-        ensures time { Elapses self.old.log.moment self.new.log.moment (left_since self.old) (left_since self.new) (left_since self.new self.new.log.moment) }
+        ensures crash { Follows (Changes file (CutAt len)) (left_since self.old self.old.log.moment)
+            (left_since self.new self.new.log.moment) }
+        ensures time { Elapses self.old.log.moment self.new.log.moment (left_since self.old) (left_since self.new)
+            (left_since self.new self.new.log.moment) }
         ensures failures { NeverFell self.old.failures self.new.failures }
         ensures called { Called (IsTrue listed) (Call.Cut (counted self.old.log.moment) file len)
             (Some (Cut (counted self.old.log.moment) file len (is_ok result))) result self.old self.new }
@@ -134,10 +143,12 @@ impl Memory {
     }
 
     pub(crate) fn sync(&mut self, file: FileNo, listed: bool) -> Result<(), HostFailed>
-        ensures settled { OnOk result (Settles file (file_of (contents_of self.old) file) (left_since self.new self.new.log.moment)) }
+        ensures settled { OnOk result
+            (Settles file (file_of (contents_of self.old) file) (left_since self.new self.new.log.moment)) }
         ensures told { contents_of self.new ≡ contents_of self.old }
         ensures crash { Stays (left_since self.old self.old.log.moment) (left_since self.new self.new.log.moment) }
-        ensures time { Elapses self.old.log.moment self.new.log.moment (left_since self.old) (left_since self.new) (left_since self.new self.new.log.moment) }
+        ensures time { Elapses self.old.log.moment self.new.log.moment (left_since self.old) (left_since self.new)
+            (left_since self.new self.new.log.moment) }
         ensures failures { NeverFell self.old.failures self.new.failures }
         ensures called { Called (IsTrue listed) (Call.Sync (counted self.old.log.moment) file)
             (only_done result (Sync (counted self.old.log.moment) file)) result self.old self.new }
@@ -148,7 +159,8 @@ impl Memory {
     pub(crate) fn say(&mut self, bytes: &[u8], listed: bool) -> Result<(), HostFailed>
         ensures said { Says bytes.now result (contents_of self.old) (contents_of self.new) }
         ensures exactly { OnErr result (contents_of self.new ≡ contents_of self.old) }
-        ensures crash { Follows (SaysSome bytes.now) (left_since self.old self.old.log.moment) (left_since self.new self.new.log.moment) }
+        ensures crash { Follows (SaysSome bytes.now) (left_since self.old self.old.log.moment)
+            (left_since self.new self.new.log.moment) }
         ensures time { Elapses self.old.log.moment self.new.log.moment (left_since self.old) (left_since self.new)
             (during (SaysSome bytes.now) (left_since self.old self.old.log.moment)) }
         ensures failures { NeverFell self.old.failures self.new.failures }

@@ -38,7 +38,8 @@ impl Parts {
         ensures bytes { AreBytes (held self.old) }
         ensures held { held self.new ≡ held self.old }
         ensures failures { NeverFell (seen self.old).failures (seen self.new).failures }
-        ensures called { Called (IsTrue listed) (Call.Len (counted self.old.log.moment) file) None result (seen self.old) (seen self.new) }
+        ensures called { Called (IsTrue listed) (Call.Len (counted self.old.log.moment) file) None result
+            (seen self.old) (seen self.new) }
     {
         self.hold_bytes();
         let number = self.log.next();
@@ -58,7 +59,8 @@ impl Parts {
         ensures unread { OnErr result (out.new ≡ out.old) }
         ensures held { held self.new ≡ held self.old }
         ensures failures { NeverFell (seen self.old).failures (seen self.new).failures }
-        ensures called { Called (IsTrue listed) (Call.Read (counted self.old.log.moment) file at (length out.old)) None result (seen self.old) (seen self.new) }
+        ensures called { Called (IsTrue listed) (Call.Read (counted self.old.log.moment) file at (length out.old))
+            None result (seen self.old) (seen self.new) }
     {
         let number = self.log.next();
         let len = out.len();
@@ -83,10 +85,13 @@ impl Parts {
         listed: bool,
     ) -> Result<(), HostFailed>
         requires { at ≤ length (file_of (held self.old) file) }
-        ensures held { held self.new ≡ (if is_ok result then with_file file (written at bytes.now (file_of (held self.old) file)) (held self.old) else held self.old) }
+        ensures held { held self.new ≡ (if is_ok result
+            then with_file file (written at bytes.now (file_of (held self.old) file)) (held self.old)
+            else held self.old) }
         ensures failures { NeverFell (seen self.old).failures (seen self.new).failures }
         ensures called { Called (IsTrue listed) (Call.Write (counted self.old.log.moment) file at (length bytes.now))
-            (Some (Write (counted self.old.log.moment) file at bytes.now (is_ok result))) result (seen self.old) (seen self.new) }
+            (Some (Write (counted self.old.log.moment) file at bytes.now (is_ok result))) result (seen self.old)
+            (seen self.new) }
     {
         let result = match file {
             FileNo::Db => write(
@@ -116,7 +121,9 @@ impl Parts {
 
     pub(crate) fn cut(&mut self, file: FileNo, len: u64, listed: bool) -> Result<(), HostFailed>
         requires { len ≤ length (file_of (held self.old) file) }
-        ensures held { held self.new ≡ (if is_ok result then with_file file (take len (file_of (held self.old) file)) (held self.old) else held self.old) }
+        ensures held { held self.new ≡ (if is_ok result
+            then with_file file (take len (file_of (held self.old) file)) (held self.old)
+            else held self.old) }
         ensures failures { NeverFell (seen self.old).failures (seen self.new).failures }
         ensures called { Called (IsTrue listed) (Call.Cut (counted self.old.log.moment) file len)
             (Some (Cut (counted self.old.log.moment) file len (is_ok result))) result (seen self.old) (seen self.new) }
@@ -172,7 +179,8 @@ impl Parts {
         ensures reads { self.new.reads ≡ self.old.reads }
         ensures first { (seen self.new).first ≡ (seen self.old).first }
         ensures log { Logged (IsTrue listed) call None result self.old.log self.new.log }
-        ensures counts { (seen self.new).failures ≡ (if is_ok result then (seen self.old).failures else failed_by call (seen self.old).failures) }
+        ensures counts { (seen self.new).failures ≡
+            (if is_ok result then (seen self.old).failures else failed_by call (seen self.old).failures) }
     {
         if self.log.admit(call).is_err() || listed {
             self.read_failures = self.read_failures.saturating_add(1);

@@ -10,7 +10,8 @@ use super::step::{Entry, Range};
 use host_model::FileNo;
 use std::alloc::{AllocError, Global};
 
-/// One file on its disk: what a read gives, what the last sync left, the least length since, and the ranges written since.
+/// One file on its disk: what a read gives, what the last sync left, the least length since, and the ranges written
+/// since.
 #[derive(Drop)]
 pub(crate) struct Disk {
     pub(crate) bytes: Vec<u8>,

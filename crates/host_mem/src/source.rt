@@ -41,7 +41,13 @@ impl MemSource {
     /// The takes with the numbers `failing` will fail, counted from 1 for the first.
     pub fn new(bytes: Vec<u8>, piece: usize, failing: Vec<u64>) -> MemSource
         requires { 0 < piece }
-        ensures { result ≡ record { left = bytes.items; piece = piece; failing = failing.items; taken = 0; failures = 0 } }
+        ensures { result ≡ record {
+          left = bytes.items;
+          piece = piece;
+          failing = failing.items;
+          taken = 0;
+          failures = 0;
+        } }
     {
         MemSource {
             bytes,

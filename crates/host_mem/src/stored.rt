@@ -90,7 +90,8 @@ pub(crate) fn write(
     listed: bool,
 ) -> Result<(), HostFailed>
     requires { at ≤ length stored.old.bytes.items }
-    ensures now { stored.new.bytes.items ≡ (if is_ok result then written at bytes.now stored.old.bytes.items else stored.old.bytes.items) }
+    ensures now { stored.new.bytes.items ≡
+        (if is_ok result then written at bytes.now stored.old.bytes.items else stored.old.bytes.items) }
     ensures first { first_of stored.new ≡ first_of stored.old }
     ensures log { Logged (IsTrue listed) (Call.Write (counted log.old.moment) file at (length bytes.now))
         (Some (Write (counted log.old.moment) file at bytes.now (is_ok result))) result log.old log.new }
@@ -132,7 +133,8 @@ pub(crate) fn cut(
     listed: bool,
 ) -> Result<(), HostFailed>
     requires { len ≤ length stored.old.bytes.items }
-    ensures now { stored.new.bytes.items ≡ (if is_ok result then take len stored.old.bytes.items else stored.old.bytes.items) }
+    ensures now { stored.new.bytes.items ≡
+        (if is_ok result then take len stored.old.bytes.items else stored.old.bytes.items) }
     ensures first { first_of stored.new ≡ first_of stored.old }
     ensures log { Logged (IsTrue listed) (Call.Cut (counted log.old.moment) file len)
         (Some (Cut (counted log.old.moment) file len (is_ok result))) result log.old log.new }
@@ -178,7 +180,8 @@ pub(crate) fn say(
     bytes: &[u8],
     listed: bool,
 ) -> Result<(), HostFailed>
-    ensures now { said.new.bytes.items ≡ (if is_ok result then said.old.bytes.items ++ bytes.now else said.old.bytes.items) }
+    ensures now { said.new.bytes.items ≡
+        (if is_ok result then said.old.bytes.items ++ bytes.now else said.old.bytes.items) }
     ensures first { first_of said.new ≡ first_of said.old }
     ensures log { Logged (IsTrue listed) (Call.Say (counted log.old.moment) (length bytes.now))
         (only_done result (Say (counted log.old.moment) bytes.now)) result log.old log.new }

@@ -16,7 +16,8 @@ memory_or_say : (t : SinkTrouble) → (of_sink t ≡ Memory) ⊎ (of_sink t ≡ 
 memory_or_say sink.Memory = inl refl
 memory_or_say sink.Failed = inr refl
 
-pub refused : {T : Type 0} (r : Result T IntegError) (error : IntegError) (t : SinkTrouble) → r ≡ Err error → error ≡ of_sink t
+pub refused : {T : Type 0} (r : Result T IntegError) (error : IntegError) (t : SinkTrouble) → r ≡ Err error
+    → error ≡ of_sink t
     → IfErr r (λ e. (e ≡ Memory) ⊎ (e ≡ SayFault))
 refused {T} r error t is same =
     let P : Result T IntegError → Type 0 = λ q. IfErr q (λ e. (e ≡ Memory) ⊎ (e ≡ SayFault)) in

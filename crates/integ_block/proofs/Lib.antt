@@ -1,9 +1,9 @@
-pub mod KindLaws
-pub mod EntryLaws
-pub mod KeyEnds
-pub mod TargetLaws
-pub mod ReadLaws
-pub mod BlockLaws
-pub mod HeadLaws
+pub mod KindLemmas
+pub mod EntryLemmas
+pub mod KeyEndLemmas
+pub mod TargetLemmas
+pub mod ReadLemmas
+pub mod BlockLemmas
+pub mod HeadLemmas
 pub mod KeyLemmas
 pub mod ErrorLemmas

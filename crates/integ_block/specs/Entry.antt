@@ -1,5 +1,6 @@
 -- What is known of a record that was read and doesn't end the reading of its block.
-use Rattle.std.specs.Prelude.{ℕ, ◌≡◌, ◌+◌, ◌≤◌, ◌<◌, ◌⊎◌, true, false, List, [], ◌++◌, if◌then◌else◌, length, take, drop, Option, None, Some}
+use Rattle.std.specs.Prelude.{ℕ, ◌≡◌, ◌+◌, ◌≤◌, ◌<◌, ◌⊎◌, true, false, List, [], ◌++◌, if◌then◌else◌, length, take}
+use Rattle.std.specs.Prelude.{drop, Option, None, Some}
 use Rattle.arrayvec.specs.ArrayVec.{ArrayVec}
 use Rattle.gds_block.specs.View.{record_of}
 use Rattle.m_key.specs.KeyEnd.{HasOpenFronts}
@@ -15,7 +16,7 @@ use Rattle.integ_block.specs.declared.record.Record.{Record}
 use Rattle.integ_block.specs.declared.entry.Entry.{Entry}
 
 abbrev pub seen : Record → law.PlacedRecord
-seen r = record { previous = r.previous.now; record_ = record_of r.view }
+seen r = record { previous = r.previous.now.items; record_ = record_of r.view }
 
 -- the last record of an index block, of the right size
 pub record IsStar (b : law.BlockReading) (s : law.PlacedRecord) (rest : List ℕ) : Type 0 where
@@ -24,17 +25,18 @@ pub record IsStar (b : law.BlockReading) (s : law.PlacedRecord) (rest : List ℕ
   pub size : length s.record_.body ≡ 4
 
 -- any other record that has a key, with its parts and what is wrong with the key
-pub record IsKeyed (b : law.BlockReading) (s : law.PlacedRecord) (key rest : List ℕ) (fault : Option FaultKind) : Type 0 where
-  pub not_last : law.is_last b s ≡ false
-  pub first_count : keyed_holds b s FirstCount ≡ false
-  pub later_count : keyed_holds b s CountTooLarge ≡ false
-  pub not_long : keyed_holds b s KeyTooLong ≡ false
-  pub with_end : keyed_holds b s KeyWithoutEnd ≡ false
-  pub whole : law.key_of b s ≡ key
-  pub behind : law.rest_of b s ≡ rest
-  pub name : key_fault key ≡ fault
-  pub fronts : HasOpenFronts key
-  pub short : length key ≤ 255
+pub record IsKeyed (b : law.BlockReading) (s : law.PlacedRecord) (key rest : List ℕ) (fault : Option FaultKind) : Type 0
+  where
+    pub not_last : law.is_last b s ≡ false
+    pub first_count : keyed_holds b s FirstCount ≡ false
+    pub later_count : keyed_holds b s CountTooLarge ≡ false
+    pub not_long : keyed_holds b s KeyTooLong ≡ false
+    pub with_end : keyed_holds b s KeyWithoutEnd ≡ false
+    pub whole : law.key_of b s ≡ key
+    pub behind : law.rest_of b s ≡ rest
+    pub name : key_fault key ≡ fault
+    pub fronts : HasOpenFronts key
+    pub short : length key ≤ 255
 
 abbrev pub IsRead : law.BlockReading → law.PlacedRecord → Option (ArrayVec ℕ) → List ℕ → Option FaultKind → Type 0
 IsRead b s None rest fault = IsStar b s rest

@@ -29,7 +29,6 @@ impl BlockReading<'_> {
         requires is_block { IsBlock bytes.now }
         requires level { self.now.level ≡ level_of bytes.now }
         requires used { self.now.used ≡ used_of bytes.now }
-        requires key_max { self.now.header.now.key_max ≤ 255 }
         ensures told { let b = reading self.now in WasTold F.listed F.failures sink.old sink.new
             (map (fault_at b self.now.at.now.path) (kinds_from b bytes.now 16 [] (records_of bytes.now)))
             result SinkTrouble.Failed }
@@ -45,7 +44,7 @@ impl BlockReading<'_> {
         for view in block.records() {
             let record = Record {
                 reading: *self,
-                previous: previous.as_slice(),
+                previous: &previous,
                 view,
             };
             let Step { count: told, key } = record.tell_all(sink, children)?;

@@ -63,8 +63,7 @@ impl Entry<'_> {
         sink: &mut F,
         children: &mut Vec<Child>,
     ) -> Result<Step, SinkTrouble>
-        requires entry { IsEntry self }
-        requires short { length self.record.previous.now ≤ 255 }
+        requires { IsEntry self }
         ensures told { WasTold F.listed F.failures sink.old sink.new (faults_here self.entry.record)
             result SinkTrouble.Failed }
         ensures count { IfOk result (λ step. step.count ≡ length (kinds_here self.entry.record)) }
@@ -135,11 +134,12 @@ impl Entry<'_> {
 
     /// The same of such a kind and a record that isn't the last one of an index block.
     fn keyed_holds(&self, key: &[u8], kind: FaultKind) -> bool
-        requires { IsKeyed (reading self.now.record.reading) (seen self.now.record) key.now self.now.rest.now self.now.fault }
+        requires { IsKeyed (reading self.now.record.reading) (seen self.now.record) key.now self.now.rest.now
+            self.now.fault }
         ensures { result ≡ keyed_holds (reading self.now.record.reading) (seen self.now.record) kind }
     {
         let reading = self.record.reading;
-        let previous = self.record.previous;
+        let previous = self.record.previous.as_slice();
         match kind {
             FaultKind::FirstCount
             | FaultKind::CountTooLarge
@@ -175,8 +175,7 @@ impl Entry<'_> {
 
     /// Where the record's pointer leads, if it is sound.
     fn child(&self) -> Option<Child>
-        requires entry { IsEntry self.now }
-        requires short { length self.now.record.previous.now ≤ 255 }
+        requires { IsEntry self.now }
         ensures { map child_of (option_to_list result)
             ≡ children_of_record (reading self.now.record.reading) (seen self.now.record) }
     {
@@ -189,15 +188,14 @@ impl Entry<'_> {
     }
 
     fn child_at(&self, block: u32) -> Child
-        requires entry { IsEntry self.now }
-        requires short { length self.now.record.previous.now ≤ 255 }
+        requires { IsEntry self.now }
         ensures { child_of result ≡ record {
           offset = self.now.record.view.offset;
           visit = target_of (reading self.now.record.reading) (seen self.now.record) block;
         } }
     {
         match &self.key {
-            Some(key) if self.record.reading.level == 0 => self.record.root(block, key.as_slice()),
+            Some(key) if self.record.reading.level == 0 => self.record.root(block, key),
             Some(key) => self.record.below(block, Some(key_from(key.as_slice()))),
             None => self
                 .record

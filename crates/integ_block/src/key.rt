@@ -4,8 +4,10 @@ ghost use Rattle.gds_law.specs.Number.{is_number_bytes};
 ghost use Rattle.gds_law.specs.Key.{is_text, subscript_fault, first_fault, key_fault};
 
 use gds_law::FaultKind;
-use m_key::{SUBSCRIPT_LIMIT, is_escaped_text, is_name, name_part, subscript_count, subscript_parts};
-use m_number::decode;
+use m_key::{
+    SUBSCRIPT_LIMIT, is_escaped_text, is_name, name_part, subscript_count, subscript_parts,
+};
+use m_number::is_encoded;
 
 /// What is wrong with a key's name or its subscripts, the first of it.
 pub(crate) fn key_fault(key: &[u8]) -> Option<FaultKind>
@@ -60,7 +62,7 @@ fn string_fault(text: &[u8]) -> Option<FaultKind>
 fn is_number(bytes: &[u8]) -> bool
     ensures { result ≡ is_number_bytes bytes.now }
 {
-    decode(bytes).is_some()
+    is_encoded(bytes)
 }
 
 /// Whether these are a string's bytes with their escapes.

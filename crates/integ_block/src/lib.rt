@@ -57,6 +57,3 @@ pub fn block_faults<F: FaultSink>(
         _ => Ok(head.count),
     }
 }
-
-#[cfg(test)]
-mod tests;

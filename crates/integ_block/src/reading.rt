@@ -5,7 +5,6 @@ ghost use Rattle.gds_law.specs.BlockReading.{points, reading_of};
 ghost use Rattle.gds_law.specs.Record.{is_above_bound, is_below_bound, is_directory, is_other_global, is_sound};
 ghost use Rattle.gds_law.specs.Visit.{visit_of};
 ghost use Rattle.gds_law.specs.Sink.{WasTold};
-ghost use Rattle.integ_block.specs.BlockReading.{reading};
 
 use crate::At;
 use crate::compare::is_below;
@@ -20,12 +19,16 @@ pub(crate) struct BlockReading<'a> {
     pub(crate) at: &'a At,
     pub(crate) level: u8,
     pub(crate) used: u32,
+    ghost short_keys: { header.now.key_max ≤ 255 },
 }
 
 impl<'a> BlockReading<'a> {
+    ghost use Rattle.integ_block.specs.BlockReading.{reading};
+
     /// The reading of a block with these bytes.
     pub(crate) fn of(bytes: &[u8], at: &'a At, header: &'a Header) -> BlockReading<'a>
-        requires { 16 ≤ length bytes.now }
+        requires head { 16 ≤ length bytes.now }
+        requires short_keys { header.now.key_max ≤ 255 }
         ensures reading { reading result ≡ reading_of header.now (visit_of at.now.visit) bytes.now }
         ensures at { result.at.now ≡ at.now }
     {

@@ -1,4 +1,5 @@
-ghost use Rattle.std.specs.Prelude.{◌≡◌, ◌+◌, ◌-◌, ◌<◌, ◌≤◌, ◌^◌, true, false, [], ◌∷◌, length, map, option_map, IfOk, IfErr};
+ghost use Rattle.std.specs.Prelude.{◌≡◌, ◌+◌, ◌-◌, ◌<◌, ◌≤◌, ◌^◌, true, false, [], ◌∷◌, length, map, option_map};
+ghost use Rattle.std.specs.Prelude.{IfOk, IfErr};
 ghost use Rattle.m_key.specs.KeyParts.{name_part};
 ghost use Rattle.gds_law.specs.Kinds.{ends};
 ghost use Rattle.gds_law.specs.BlockReading.{is_last, is_first};
@@ -7,7 +8,8 @@ ghost use Rattle.gds_law.specs.Sink.{Grew, WasTold};
 ghost use Rattle.gds_law.specs.Visit.{global_root};
 ghost use Rattle.m_key.specs.KeyEnd.{HasOpenFronts};
 ghost use Rattle.integ_block.specs.BlockReading.{reading};
-ghost use Rattle.integ_block.specs.Entry.{children_here, faults_here, kinds_here, seen, IsEntry, IsCount, IsKeyPart, LeavesHere};
+ghost use Rattle.integ_block.specs.Entry.{children_here, faults_here, kinds_here, seen};
+ghost use Rattle.integ_block.specs.Entry.{IsEntry, IsCount, IsKeyPart, LeavesHere};
 ghost use Rattle.integ_block.specs.Child.{child_of};
 
 use crate::Child;
@@ -26,7 +28,7 @@ pub(crate) const FIRST: u32 = 16;
 #[derive(Clone, Copy)]
 pub(crate) struct Record<'a> {
     pub(crate) reading: BlockReading<'a>,
-    pub(crate) previous: &'a [u8],
+    pub(crate) previous: &'a Key,
     pub(crate) view: RecordView<'a>,
 }
 
@@ -38,10 +40,9 @@ impl<'a> Record<'a> {
         children: &mut Vec<Child>,
     ) -> Result<Step, SinkTrouble>
         requires small { self.view.offset + 4 + length self.view.body.now < 2 ^ 32 }
-        requires key_max { self.reading.header.now.key_max ≤ 255 }
-        requires fronts { HasOpenFronts self.previous.now }
-        requires short { length self.previous.now ≤ 255 }
-        ensures told { WasTold F.listed F.failures sink.old sink.new (faults_here self.entry) result SinkTrouble.Failed }
+        requires fronts { HasOpenFronts self.previous.now.items }
+        ensures told { WasTold F.listed F.failures sink.old sink.new (faults_here self.entry)
+            result SinkTrouble.Failed }
         ensures count { IfOk result (λ step. step.count ≡ length (kinds_here self.entry)) }
         ensures few { IfOk result (λ step. step.count ≤ 17) }
         ensures children { Grew (map child_of children.old.items) (map child_of children.new.items)
@@ -63,8 +64,7 @@ impl<'a> Record<'a> {
     /// Reads the record, or answers the kind that ends the reading of its block, which then is its only one.
     fn read(self) -> Result<Entry<'a>, FaultKind>
         requires small { self.view.offset + 4 + length self.view.body.now < 2 ^ 32 }
-        requires short { self.reading.header.now.key_max ≤ 255 }
-        requires fronts { HasOpenFronts self.previous.now }
+        requires fronts { HasOpenFronts self.previous.now.items }
         ensures ok { IfOk result IsEntry }
         ensures same { IfOk result (λ entry. entry.record ≡ self.entry) }
         ensures err { IfErr result (λ kind. kinds_here self.entry ≡ kind ∷ []) }
@@ -106,8 +106,7 @@ impl<'a> Record<'a> {
 
     fn read_keyed(self) -> Result<Entry<'a>, FaultKind>
         requires not_last { is_last (reading self.reading) (seen self) ≡ false }
-        requires short { self.reading.header.now.key_max ≤ 255 }
-        requires fronts { HasOpenFronts self.previous.now }
+        requires fronts { HasOpenFronts self.previous.now.items }
         ensures ok { IfOk result IsEntry }
         ensures same { IfOk result (λ entry. entry.record ≡ self.entry) }
         ensures err { IfErr result (λ kind. kinds_here self.entry ≡ kind ∷ []) }
@@ -116,7 +115,7 @@ impl<'a> Record<'a> {
         self.check_count()?;
         let len = self.key_part()?;
         let (end, rest) = self.view.body.split_at(len);
-        let key = join_key(&self.previous[..self.view.count as usize], end);
+        let key = join_key(&self.previous.as_slice()[..self.view.count as usize], end);
         let fault = key_fault(key.as_slice());
         Ok(Entry {
             record: self,
@@ -137,7 +136,7 @@ impl<'a> Record<'a> {
             if self.view.count > 0 {
                 return Err(FaultKind::FirstCount);
             }
-        } else if self.view.count as usize >= self.previous.len() {
+        } else if self.view.count as usize >= self.previous.as_slice().len() {
             return Err(FaultKind::CountTooLarge);
         }
         Ok(())
@@ -147,14 +146,17 @@ impl<'a> Record<'a> {
     fn key_part(&self) -> Result<usize, FaultKind>
         requires not_last { is_last (reading self.now.reading) (seen self.now) ≡ false }
         requires count { IsCount (reading self.now.reading) (seen self.now) }
-        requires fronts { HasOpenFronts self.now.previous.now }
+        requires fronts { HasOpenFronts self.now.previous.now.items }
         ensures ok { IfOk result (IsKeyPart (reading self.now.reading) (seen self.now)) }
         ensures err { IfErr result (λ kind. kinds_here self.now ≡ kind ∷ []) }
         ensures ends { IfErr result (λ kind. ends kind ≡ true) }
     {
         let count = self.view.count as usize;
         let greatest = self.reading.header.key_max as usize;
-        match end_in(ends_in_zero(&self.previous[..count]), self.view.body) {
+        match end_in(
+            ends_in_zero(&self.previous.as_slice()[..count]),
+            self.view.body,
+        ) {
             Some(len) if count + len <= greatest => Ok(len),
             _ if count + self.view.body.len() > greatest => Err(FaultKind::KeyTooLong),
             _ => Err(FaultKind::KeyWithoutEnd),
@@ -169,18 +171,17 @@ impl<'a> Record<'a> {
     }
 
     /// A child that is the root of the global with this key's name.
-    pub(crate) fn root(&self, block: u32, key: &[u8]) -> Child
-        requires { length key.now ≤ 255 }
+    pub(crate) fn root(&self, block: u32, key: &Key) -> Child
         ensures { child_of result ≡ record {
           offset = self.now.view.offset;
-          visit = global_root block (name_part key.now);
+          visit = global_root block (name_part key.now.items);
         } }
     {
         Child {
             offset: self.view.offset,
             visit: Visit {
                 block,
-                role: Role::Global(key_from(name_part(key))),
+                role: Role::Global(key_from(name_part(key.as_slice()))),
                 level: None,
                 low: None,
                 high: None,
@@ -190,8 +191,7 @@ impl<'a> Record<'a> {
 
     /// A child in the same tree, with this upper bound.
     pub(crate) fn below(&self, block: u32, high: Option<Key>) -> Child
-        requires level { 0 < self.now.reading.level }
-        requires short { length self.now.previous.now ≤ 255 }
+        requires { 0 < self.now.reading.level }
         ensures { child_of result ≡ record {
           offset = self.now.view.offset;
           visit = record {
@@ -217,13 +217,12 @@ impl<'a> Record<'a> {
 
     /// The lower bound below the record: the key before it or, in the first record, the block's own.
     fn low(&self) -> Option<Key>
-        requires { length self.now.previous.now ≤ 255 }
         ensures { option_map (λ key. key.items) result ≡ low_of (reading self.now.reading) (seen self.now) }
     {
         if self.is_first() {
             bound_of(&self.reading.at.visit.low)
         } else {
-            Some(key_from(self.previous))
+            Some(key_from(self.previous.as_slice()))
         }
     }
 }

@@ -1,12 +1,14 @@
 -- Escaping leaves no byte 0, can be undone, and keeps the order.
-use Rattle.std.proofs.Common.{◌≡◌, ℕ, zero, suc, ◌<◌, ◌≤◌, ◌⊎◌, inl, inr, List, [], ◌∷◌, ◌++◌, length, drop, refl, sym, ap, ◌∙◌, arith, nat_cmp, Less, Greater, flat_map}
+use Rattle.std.proofs.Common.{◌≡◌, ℕ, zero, suc, ◌<◌, ◌≤◌, ◌⊎◌, inl, inr, List, [], ◌∷◌, ◌++◌, length, drop, refl, sym}
+use Rattle.std.proofs.Common.{ap, ◌∙◌, arith, nat_cmp, Less, Greater, flat_map}
 use Rattle.std.specs.Prelude.{slice_index}
 use Rattle.std.specs.Ordering.{ordering_then}
 use Rattle.std.specs.Cmp.Lexicographic.{slice_cmp}
 use Rattle.std.proofs.lemmas.Bool.Decides.{nat_tests}
 use Rattle.std.specs.FinMap.{slice_cmp-IsAntisymmetric, nat_cmp-IsAntisymmetric}
 use Rattle.m_key.specs.Key.{escaped}
-use Rattle.m_key.proofs.ZeroLemmas.{NoZero, NoZero-append, cmp-same, nat_cmp_less, nat_cmp_same, nat_cmp_greater}
+use Rattle.m_key.proofs.ZeroLemmas.{NoZero, NoZero-append, cmp-same}
+use Rattle.m_number.proofs.OrderingLemmas.{nat_cmp_less, nat_cmp_same, nat_cmp_greater}
 
 -- a byte is 0 or 1, which have two bytes each, or stands for itself
 data Escaped (b : ℕ) : Type 0 where
@@ -32,24 +34,40 @@ escaped_cases b = cases b (three_ways b)
 
 -- one byte more, in the order of escaped lists
 module _ (x y : ℕ) (a b : List ℕ) where
-  same_step : {l m : List ℕ} → escaped x ≡ l → escaped y ≡ m → x ≡ y → slice_cmp nat_cmp (l ++ a) (m ++ b) ≡ slice_cmp nat_cmp a b → slice_cmp nat_cmp (escaped x ++ a) (escaped y ++ b) ≡ ordering_then (nat_cmp x y) (slice_cmp nat_cmp a b)
-  same_step ex ey e t = rw (ex, ey) (t ∙ sym (ap (λ o. ordering_then o (slice_cmp nat_cmp a b)) (ap (nat_cmp x) (sym e) ∙ nat_cmp_same x)))
+  same_step : {l m : List ℕ} → escaped x ≡ l → escaped y ≡ m → x ≡ y
+      → slice_cmp nat_cmp (l ++ a) (m ++ b) ≡ slice_cmp nat_cmp a b
+      → slice_cmp nat_cmp (escaped x ++ a) (escaped y ++ b) ≡ ordering_then (nat_cmp x y) (slice_cmp nat_cmp a b)
+  same_step ex ey e t =
+      rw (ex, ey) (t
+      ∙ sym (ap (λ o. ordering_then o (slice_cmp nat_cmp a b)) (ap (nat_cmp x) (sym e) ∙ nat_cmp_same x)))
 
-  less_step : {l m : List ℕ} → escaped x ≡ l → escaped y ≡ m → x < y → slice_cmp nat_cmp (l ++ a) (m ++ b) ≡ Less → slice_cmp nat_cmp (escaped x ++ a) (escaped y ++ b) ≡ ordering_then (nat_cmp x y) (slice_cmp nat_cmp a b)
+  less_step : {l m : List ℕ} → escaped x ≡ l → escaped y ≡ m → x < y → slice_cmp nat_cmp (l ++ a) (m ++ b) ≡ Less
+      → slice_cmp nat_cmp (escaped x ++ a) (escaped y ++ b) ≡ ordering_then (nat_cmp x y) (slice_cmp nat_cmp a b)
   less_step ex ey h t = rw (ex, ey) (t ∙ sym (ap (λ o. ordering_then o (slice_cmp nat_cmp a b)) (nat_cmp_less x y h)))
 
-  greater_step : {l m : List ℕ} → escaped x ≡ l → escaped y ≡ m → y < x → slice_cmp nat_cmp (l ++ a) (m ++ b) ≡ Greater → slice_cmp nat_cmp (escaped x ++ a) (escaped y ++ b) ≡ ordering_then (nat_cmp x y) (slice_cmp nat_cmp a b)
-  greater_step ex ey h t = rw (ex, ey) (t ∙ sym (ap (λ o. ordering_then o (slice_cmp nat_cmp a b)) (nat_cmp_greater x y h)))
+  greater_step : {l m : List ℕ} → escaped x ≡ l → escaped y ≡ m → y < x → slice_cmp nat_cmp (l ++ a) (m ++ b) ≡ Greater
+      → slice_cmp nat_cmp (escaped x ++ a) (escaped y ++ b) ≡ ordering_then (nat_cmp x y) (slice_cmp nat_cmp a b)
+  greater_step ex ey h t =
+      rw (ex, ey) (t ∙ sym (ap (λ o. ordering_then o (slice_cmp nat_cmp a b)) (nat_cmp_greater x y h)))
 
-  step : Escaped x → Escaped y → slice_cmp nat_cmp (escaped x ++ a) (escaped y ++ b) ≡ ordering_then (nat_cmp x y) (slice_cmp nat_cmp a b)
+  step : Escaped x → Escaped y
+      → slice_cmp nat_cmp (escaped x ++ a) (escaped y ++ b) ≡ ordering_then (nat_cmp x y) (slice_cmp nat_cmp a b)
   step (none e ex) (none f ey) = same_step ex ey (omega arith) refl
   step (none e ex) (one f ey) = less_step ex ey (omega arith) refl
-  step (none e ex) (more f ey) = less_step ex ey (omega arith) (ap (λ o. ordering_then o (slice_cmp nat_cmp (1 ∷ a) b)) (nat_cmp_less 1 y (omega arith)))
+  step (none e ex) (more f ey) =
+      less_step ex ey (omega arith) (ap (λ o. ordering_then o (slice_cmp nat_cmp (1 ∷ a) b))
+      (nat_cmp_less 1 y (omega arith)))
   step (one e ex) (none f ey) = greater_step ex ey (omega arith) refl
   step (one e ex) (one f ey) = same_step ex ey (omega arith) refl
-  step (one e ex) (more f ey) = less_step ex ey (omega arith) (ap (λ o. ordering_then o (slice_cmp nat_cmp (2 ∷ a) b)) (nat_cmp_less 1 y (omega arith)))
-  step (more e ex) (none f ey) = greater_step ex ey (omega arith) (ap (λ o. ordering_then o (slice_cmp nat_cmp a (1 ∷ b))) (nat_cmp_greater x 1 (omega arith)))
-  step (more e ex) (one f ey) = greater_step ex ey (omega arith) (ap (λ o. ordering_then o (slice_cmp nat_cmp a (2 ∷ b))) (nat_cmp_greater x 1 (omega arith)))
+  step (one e ex) (more f ey) =
+      less_step ex ey (omega arith) (ap (λ o. ordering_then o (slice_cmp nat_cmp (2 ∷ a) b))
+      (nat_cmp_less 1 y (omega arith)))
+  step (more e ex) (none f ey) =
+      greater_step ex ey (omega arith) (ap (λ o. ordering_then o (slice_cmp nat_cmp a (1 ∷ b)))
+      (nat_cmp_greater x 1 (omega arith)))
+  step (more e ex) (one f ey) =
+      greater_step ex ey (omega arith) (ap (λ o. ordering_then o (slice_cmp nat_cmp a (2 ∷ b)))
+      (nat_cmp_greater x 1 (omega arith)))
   step (more e ex) (more f ey) = rw (ex, ey) refl
 
 -- an escaped byte stands before nothing
@@ -78,7 +96,8 @@ no_zero b (more f e) = rw e (omega arith, tt)
 
 pub NoZero-escaped : (s : List ℕ) → NoZero (flat_map escaped s)
 NoZero-escaped [] = tt
-NoZero-escaped (b ∷ bs) = NoZero-append (escaped b) (flat_map escaped bs) (no_zero b (escaped_cases b)) (NoZero-escaped bs)
+NoZero-escaped (b ∷ bs) =
+    NoZero-append (escaped b) (flat_map escaped bs) (no_zero b (escaped_cases b)) (NoZero-escaped bs)
 
 -- escaping can be undone
 pub escaped-injective : (s t : List ℕ) → flat_map escaped s ≡ flat_map escaped t → s ≡ t
@@ -122,6 +141,9 @@ pub escaped-begun : (x : ℕ) (a : List ℕ) → escaped x ++ a ≡ [] → ⊥
 escaped-begun x a h = begun x a (escaped_cases x) h
   where
     begun : (x : ℕ) (a : List ℕ) → Escaped x → escaped x ++ a ≡ [] → ⊥
-    begun x a (none e ex) h = let k : suc (suc (length a)) ≡ 0 = ap length (ap (λ l. l ++ a) (sym ex) ∙ h) in absurd (omega arith)
-    begun x a (one e ex) h = let k : suc (suc (length a)) ≡ 0 = ap length (ap (λ l. l ++ a) (sym ex) ∙ h) in absurd (omega arith)
-    begun x a (more e ex) h = let k : suc (length a) ≡ 0 = ap length (ap (λ l. l ++ a) (sym ex) ∙ h) in absurd (omega arith)
+    begun x a (none e ex) h = let k : suc (suc (length a)) ≡ 0 = ap length (ap (λ l. l ++ a) (sym ex) ∙ h) in
+        absurd (omega arith)
+    begun x a (one e ex) h = let k : suc (suc (length a)) ≡ 0 = ap length (ap (λ l. l ++ a) (sym ex) ∙ h) in
+        absurd (omega arith)
+    begun x a (more e ex) h = let k : suc (length a) ≡ 0 = ap length (ap (λ l. l ++ a) (sym ex) ∙ h) in
+        absurd (omega arith)

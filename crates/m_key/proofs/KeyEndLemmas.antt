@@ -1,5 +1,7 @@
 -- Laws of the ends of keys, and of the leading bytes that keys share.
-use Rattle.std.proofs.Common.{ℕ, zero, suc, ◌≡◌, ◌+◌, ◌≤◌, ◌<◌, Bool, true, false, cond, List, [], ◌∷◌, ◌++◌, length, get_or, take, drop, Option, Some, None, ◌⊎◌, inl, inr, refl, sym, ◌∙◌, ap, subst, arith, length-take}
+use Rattle.std.proofs.Common.{ℕ, zero, suc, ◌≡◌, ◌+◌, ◌≤◌, ◌<◌, Bool, true, false, cond, List, [], ◌∷◌, ◌++◌, length}
+use Rattle.std.proofs.Common.{get_or, take, drop, Option, Some, None, ◌⊎◌, inl, inr, refl, sym, ◌∙◌, ap, subst, arith}
+use Rattle.std.proofs.Common.{length-take}
 use Rattle.std.specs.Prelude.{◌&&◌, ◌==◌, nat_eq, option_map, slice_get}
 use Rattle.std.specs.Ordering.{nat_cmp}
 use Rattle.std.specs.Cmp.Lexicographic.{slice_cmp}
@@ -20,13 +22,15 @@ shared-nil (x ∷ a) = refl
 pub shared-past : (a b : List ℕ) (i : ℕ) → length b ≤ i → shared (drop i a) (drop i b) ≡ 0
 shared-past a b i h = rw (drop_all i b h) (shared-nil (drop i a))
 
-pub shared-apart : (a b : List ℕ) (i : ℕ) → i < length a → i < length b → (get_or a i 0 ≡ get_or b i 0 → ⊥) → shared (drop i a) (drop i b) ≡ 0
+pub shared-apart : (a b : List ℕ) (i : ℕ) → i < length a → i < length b → (get_or a i 0 ≡ get_or b i 0 → ⊥)
+    → shared (drop i a) (drop i b) ≡ 0
 shared-apart a b i h k ne = common_prefix_len-drop_no nat_eq a b i 0 0 h k (ne_eqb _ _ ne)
 
 pub shared-le : (a b : List ℕ) → (shared a b ≤ length a) × (shared a b ≤ length b)
 shared-le a b = common_prefix_len-le nat_eq a b
 
-take_step : (t : Bool) (s x y : ℕ) (a b : List ℕ) → (t ≡ true → x ≡ y) → take s a ≡ take s b → take (cond t (1 + s) 0) (x ∷ a) ≡ take (cond t (1 + s) 0) (y ∷ b)
+take_step : (t : Bool) (s x y : ℕ) (a b : List ℕ) → (t ≡ true → x ≡ y) → take s a ≡ take s b
+    → take (cond t (1 + s) 0) (x ∷ a) ≡ take (cond t (1 + s) 0) (y ∷ b)
 take_step true s x y a b h k =
     let e = h refl in
     rw one-add (cc)
@@ -40,7 +44,8 @@ take-shared (x ∷ a) (y ∷ b) = take_step (nat_eq x y) (shared a b) x y a b (e
 
 -- ---- the ends
 
-cond_suc : (t : Bool) (n : ℕ) (o p : Option ℕ) → o ≡ p → cond t (Some (suc n)) (option_map suc o) ≡ option_map suc (cond t (Some n) p)
+cond_suc : (t : Bool) (n : ℕ) (o p : Option ℕ) → o ≡ p
+    → cond t (Some (suc n)) (option_map suc o) ≡ option_map suc (cond t (Some n) p)
 cond_suc true n o p e = refl
 cond_suc false n o p e = ap (option_map suc) e
 
@@ -63,7 +68,8 @@ record Steps (t : Bool) (o : Option ℕ) (n : ℕ) : Type 0 where
   found : o ≡ Some tail
   more : n ≡ suc tail
 
-some_step : (t : Bool) (o : Option ℕ) (n : ℕ) → cond t (Some 1) (option_map suc o) ≡ Some n → ((t ≡ true) × (n ≡ 1)) ⊎ Steps t o n
+some_step : (t : Bool) (o : Option ℕ) (n : ℕ) → cond t (Some 1) (option_map suc o) ≡ Some n
+    → ((t ≡ true) × (n ≡ 1)) ⊎ Steps t o n
 some_step true o n h = inl (refl, cc)
 some_step false None n h = absurd (cc)
 some_step false (Some k) n h = inr (record { open_still = refl; tail = k; found = refl; more = cc })
@@ -81,19 +87,23 @@ still_open true o p h e = absurd (cc)
 still_open false o p h e = ap (option_map suc) e
 
 -- Bytes with no end among them leave the end to what follows.
-pub end_in-append_open : (front body : List ℕ) (z : Bool) → end_in z front ≡ None → end_in z (front ++ body) ≡ option_map (λ n. length front + n) (end_in (zero_after z front) body)
+pub end_in-append_open : (front body : List ℕ) (z : Bool) → end_in z front ≡ None
+    → end_in z (front ++ body) ≡ option_map (λ n. length front + n) (end_in (zero_after z front) body)
 end_in-append_open [] body z h = sym (option_map-zero (end_in z body))
 end_in-append_open (b ∷ front) body z h =
     let e = none_step (z && (b == 0)) (end_in (b == 0) front) h in
-    still_open (z && (b == 0)) _ _ e.0 (end_in-append_open front body (b == 0) e.1) ∙ option_map-suc (length front) (end_in (zero_after (b == 0) front) body)
+    still_open (z && (b == 0)) _ _ e.0 (end_in-append_open front body (b == 0) e.1)
+    ∙ option_map-suc (length front) (end_in (zero_after (b == 0) front) body)
 
 -- An end among bytes stays one whatever follows.
-pub end_in-append_found : (front body : List ℕ) (z : Bool) (n : ℕ) → end_in z front ≡ Some n → end_in z (front ++ body) ≡ Some n
+pub end_in-append_found : (front body : List ℕ) (z : Bool) (n : ℕ) → end_in z front ≡ Some n
+    → end_in z (front ++ body) ≡ Some n
 end_in-append_found [] body z n h = absurd (cc)
 end_in-append_found (b ∷ front) body z n h =
     elim (some_step (z && (b == 0)) (end_in (b == 0) front) n h) [
       | inl e ↦ rw e.0 (ap Some (sym e.1))
-      | inr e ↦ still_open (z && (b == 0)) _ _ e.open_still (end_in-append_found front body (b == 0) e.tail e.found) ∙ ap Some (sym e.more)
+      | inr e ↦ still_open (z && (b == 0)) _ _ e.open_still (end_in-append_found front body (b == 0) e.tail e.found)
+          ∙ ap Some (sym e.more)
     ]
 
 pub end_in-within : (bytes : List ℕ) (z : Bool) (n : ℕ) → end_in z bytes ≡ Some n → n ≤ length bytes
@@ -105,13 +115,15 @@ end_in-within (b ∷ bytes) z n h =
     ]
 
 -- No shorter front has an end, and the front up to the end has it.
-pub end_in-take_less : (bytes : List ℕ) (z : Bool) (n m : ℕ) → end_in z bytes ≡ Some n → m < n → end_in z (take m bytes) ≡ None
+pub end_in-take_less : (bytes : List ℕ) (z : Bool) (n m : ℕ) → end_in z bytes ≡ Some n → m < n
+    → end_in z (take m bytes) ≡ None
 end_in-take_less [] z n m h k = absurd (cc)
 end_in-take_less (b ∷ bytes) z n zero h k = refl
 end_in-take_less (b ∷ bytes) z n (suc m) h k =
     elim (some_step (z && (b == 0)) (end_in (b == 0) bytes) n h) [
       | inl e ↦ absurd (omega (arith, e.1))
-      | inr e ↦ still_open (z && (b == 0)) _ None e.open_still (end_in-take_less bytes (b == 0) e.tail m e.found (omega (arith, e.more)))
+      | inr e ↦ still_open (z
+          && (b == 0)) _ None e.open_still (end_in-take_less bytes (b == 0) e.tail m e.found (omega (arith, e.more)))
     ]
 
 pub end_in-take_same : (bytes : List ℕ) (z : Bool) (n : ℕ) → end_in z bytes ≡ Some n → end_in z (take n bytes) ≡ Some n
@@ -119,13 +131,15 @@ end_in-take_same [] z n h = absurd (cc)
 end_in-take_same (b ∷ bytes) z n h =
     elim (some_step (z && (b == 0)) (end_in (b == 0) bytes) n h) [
       | inl e ↦ rw (e.1, e.0) refl
-      | inr e ↦ rw e.more (still_open (z && (b == 0)) _ (Some e.tail) e.open_still (end_in-take_same bytes (b == 0) e.tail e.found))
+      | inr e ↦ rw e.more (still_open (z
+          && (b == 0)) _ (Some e.tail) e.open_still (end_in-take_same bytes (b == 0) e.tail e.found))
     ]
 
 -- ---- keys
 
 pub key_len-append : (key rest : List ℕ) (n : ℕ) → key_len key ≡ Some n → key_len (key ++ rest) ≡ Some n
-key_len-append key rest n h = key_len-end_in (key ++ rest) ∙ end_in-append_found key rest false n (sym (key_len-end_in key) ∙ h)
+key_len-append key rest n h = key_len-end_in (key ++ rest)
+    ∙ end_in-append_found key rest false n (sym (key_len-end_in key) ∙ h)
 
 pub key_len-within : (bytes : List ℕ) (n : ℕ) → key_len bytes ≡ Some n → n ≤ length bytes
 key_len-within bytes n h = end_in-within bytes false n (sym (key_len-end_in bytes) ∙ h)
@@ -157,17 +171,20 @@ not_less a b e h =
     absurd (cc)
 
 -- Keys that rise share fewer bytes than either has.
-pub shared-below : (a b : List ℕ) → IsKey a → IsKey b → slice_cmp nat_cmp a b ≡ Less → (shared a b < length a) × (shared a b < length b)
+pub shared-below : (a b : List ℕ) → IsKey a → IsKey b → slice_cmp nat_cmp a b ≡ Less
+    → (shared a b < length a) × (shared a b < length b)
 shared-below a b p q less =
     let le = shared-le a b in
     let t = take-shared a b in (
       elim (cases_lt (shared a b) (length a)) [
         | inl h ↦ h
-        | inr h ↦ absurd (not_less a b (front_key a b p q (shared a b) (omega arith) (sym t ∙ take_all (shared a b) a h)) less)
+        | inr h ↦ absurd (not_less a b (front_key a b p q (shared a b) (omega arith) (sym t
+            ∙ take_all (shared a b) a h)) less)
       ],
       elim (cases_lt (shared a b) (length b)) [
         | inl h ↦ h
-        | inr h ↦ absurd (not_less a b (sym (front_key b a q p (shared a b) (omega arith) (t ∙ take_all (shared a b) b h))) less)
+        | inr h ↦ absurd (not_less a b (sym (front_key b a q p (shared a b) (omega arith) (t
+            ∙ take_all (shared a b) b h))) less)
       ],
     )
 
@@ -177,7 +194,8 @@ length-key [] p =
     absurd (cc)
 length-key (b ∷ key) p = omega arith
 
-pub zero_after-last : (bytes : List ℕ) (before : Bool) (n b : ℕ) → n + 1 ≡ length bytes → slice_get bytes n ≡ Some b → zero_after before bytes ≡ (b == 0)
+pub zero_after-last : (bytes : List ℕ) (before : Bool) (n b : ℕ) → n + 1 ≡ length bytes → slice_get bytes n ≡ Some b
+    → zero_after before bytes ≡ (b == 0)
 zero_after-last [] before n b h k = absurd (omega arith)
 zero_after-last (x ∷ []) before zero b h k =
     let same : x ≡ b = cc in

@@ -1,7 +1,7 @@
 pub mod ZeroLemmas
 pub mod EscapeLemmas
 pub mod KeyLemmas
-pub mod Numbers
+pub mod NumberLemmas
 pub mod FillLemmas
 pub mod ReadingLemmas
 pub mod PlaceLemmas

@@ -1,5 +1,6 @@
 -- The ends of keys, and what neighbouring keys share.
-use Rattle.std.specs.Prelude.{ℕ, suc, ◌≡◌, ◌≤◌, ◌<◌, Bool, ◌==◌, ◌&&◌, nat_eq, if◌then◌else◌, List, [], ◌∷◌, length, take, Option, Some, None, option_map}
+use Rattle.std.specs.Prelude.{ℕ, suc, ◌≡◌, ◌≤◌, ◌<◌, Bool, ◌==◌, ◌&&◌, nat_eq, if◌then◌else◌, List, [], ◌∷◌, length}
+use Rattle.std.specs.Prelude.{take, Option, Some, None, option_map}
 use Rattle.std.specs.List.{common_prefix_len}
 
 -- how many bytes there are up to the first two neighbouring zero bytes, both included, where there are two

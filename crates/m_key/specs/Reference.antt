@@ -37,7 +37,8 @@ is_subscript (variant.Text t) = t.is_text
 pub is_node : (r : Reference) → IsNode (node_of r)
 is_node r = record {
   name = r.name.is_name;
-  count = subst (λ (n : ℕ). n ≤ 31) (r.subscripts.items.ok.0 ∙ sym (length-map (subscript_list r.subscripts) node_subscript_of)) r.subscripts.count;
+  count = subst (λ (n : ℕ). n ≤ 31) (r.subscripts.items.ok.0
+      ∙ sym (length-map (subscript_list r.subscripts) node_subscript_of)) r.subscripts.count;
   subscripts = All-map IsSubscript node_subscript_of (subscript_list r.subscripts) (λ k d h. is_subscript _);
 }
 

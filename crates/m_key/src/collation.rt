@@ -58,7 +58,7 @@ fn compare_numbers(a: &Number, b: &Number) -> Ordering
     }
 }
 
-// 0, 1 or 2 for a number below zero, zero, or above it.
+/// 0, 1 or 2 for a number below zero, zero, or above it.
 fn side(number: &Number) -> u8
     ensures { result ≡ side_of (numeral_of number.now) }
 {

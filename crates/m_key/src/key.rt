@@ -9,7 +9,7 @@ use thiserror::Error;
 /// The bytes of a key, in whose order references stand in files.
 pub type Key = ArrayVec<u8, 255>;
 
-// The bytes of strings from here on stand for themselves.
+/// The bytes of strings from here on stand for themselves.
 const FIRST_PLAIN: u8 = 2;
 
 /// A key has too many bytes.
@@ -20,7 +20,7 @@ pub struct KeyTooLong {
     pub len: u64,
 }
 
-// A key in the making: as much of it as fits, and the number of all bytes so far.
+/// A key in the making: as much of it as fits, and the number of all bytes so far.
 #[derive(Drop)]
 pub(crate) struct Written {
     pub(crate) front: Key,
@@ -35,7 +35,7 @@ impl Written {
     ghost use Rattle.m_key.specs.Reference.{node_subscript_of, node_of};
     ghost use Rattle.m_key.specs.Writing.{Appends};
 
-    // The key of a reference.
+    /// The key of a reference.
     pub(crate) fn of(reference: &Reference) -> Written
         ensures front { result.front.items ≡ take 255 (key_bytes (node_of reference.now)) }
         ensures len { result.len ≡ min (length (key_bytes (node_of reference.now))) (2 ^ 64 - 1) }

@@ -17,7 +17,7 @@ pub fn name_part(key: &[u8]) -> &[u8]
 /// The subscripts in a key, in order, seen as the list of those that are left. A 0 stands behind each, and none in one.
 #[derive(Drop)]
 pub struct SubscriptParts<'a> {
-    // Their bytes, with a 0 between any two, where a subscript is left.
+    /// Their bytes, with a 0 between any two, where a subscript is left.
     left: Option<&'a [u8]>,
 }
 

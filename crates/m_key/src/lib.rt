@@ -26,6 +26,3 @@ pub use reading::reference_of;
 pub use reference::{Reference, SUBSCRIPT_LIMIT, Subscripts};
 pub use spelling::{name_of, subscript_of};
 pub use subscript::{Subscript, Text};
-
-#[cfg(test)]
-mod tests;

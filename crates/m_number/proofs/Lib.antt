@@ -1,5 +1,7 @@
-pub mod Reading
-pub mod Comparing
-pub mod Packing
-pub mod Made
-pub mod Valuing
+pub mod OrderingLemmas
+pub mod TextLemmas
+pub mod BytesLemmas
+pub mod PackedLemmas
+pub mod NumberLemmas
+pub mod ValueLemmas
+pub mod EncodedLemmas

@@ -1,5 +1,6 @@
 -- The canonical text of a number, as ASCII codes: 45 is '-', 46 is '.', 48 is '0'.
-use Rattle.std.specs.Prelude.{ℕ, ◌+◌, ◌-◌, ◌==◌, ℤ, pos, negsuc, List, [], ◌∷◌, ◌++◌, length, take, drop, map, replicate, nat_le, if◌then◌else◌}
+use Rattle.std.specs.Prelude.{ℕ, ◌+◌, ◌-◌, ◌==◌, ℤ, pos, negsuc, List, [], ◌∷◌, ◌++◌, length, take, drop, map}
+use Rattle.std.specs.Prelude.{replicate, nat_le, if◌then◌else◌}
 use Rattle.m_number.specs.Numeral.{Numeral}
 
 abbrev pub codes_of : List ℕ → List ℕ

@@ -27,7 +27,7 @@ pub fn encode(number: &Number) -> ArrayVec<u8, 12>
     bytes
 }
 
-// Appends a number that isn't zero, without the end of a negative one.
+/// Appends a number that isn't zero, without the end of a negative one.
 fn push_size(bytes: &mut ArrayVec<u8, 12>, negative: bool, digits: &[u8], exponent: i8)
     requires empty { array_vec_len bytes.old ≡ 0 }
     requires decimal { All (λ d. d < 10) digits.now }
@@ -55,8 +55,8 @@ fn push_pairs(bytes: &mut ArrayVec<u8, 12>, negative: bool, digits: &[u8])
     }
 }
 
-// A byte of a positive number, as it stands in one of this sign, and back.
-fn signed(negative: bool, byte: u8) -> u8
+/// A byte of a positive number, as it stands in one of this sign, and back.
+pub(crate) fn signed(negative: bool, byte: u8) -> u8
     ensures { result ≡ signed_byte negative byte }
 {
     if negative { 0xFF - byte } else { byte }
@@ -75,7 +75,7 @@ pub fn decode(bytes: &[u8]) -> Option<Number>
     }
 }
 
-// The number that has these bytes, if one has them.
+/// The number that has these bytes, if one has them.
 fn candidate(bytes: &[u8]) -> Option<Number>
     ensures { (n : Numeral) → IsNumeral n → bytes_of n ≡ bytes.now → IsSomeAnd result (λ r. numeral_of r ≡ n) }
 {
@@ -90,7 +90,7 @@ fn candidate(bytes: &[u8]) -> Option<Number>
     nonzero(true, 0xFF - *first, packed)
 }
 
-// The number with the first byte that it would have without its sign, and these bytes of digits.
+/// The number with the first byte that it would have without its sign, and these bytes of digits.
 fn nonzero(negative: bool, first: u8, packed: &[u8]) -> Option<Number>
     requires { 128 ≤ first }
     ensures { (n : Numeral) → IsNumeral n → n.negative ≡ negative → 0 < length n.digits → first ≡ first_byte n.exponent
@@ -106,7 +106,7 @@ fn nonzero(negative: bool, first: u8, packed: &[u8]) -> Option<Number>
     )
 }
 
-// The digits of these bytes.
+/// The digits of these bytes.
 fn unpacked(negative: bool, packed: &[u8]) -> Digits
     requires { length packed.now ≤ 9 }
     ensures { result ≡ unfilled (flat_map (pair_of negative) packed.now) }

@@ -3,14 +3,14 @@
 
 mod bytes;
 mod digits;
+mod encoded;
 mod laws;
 mod number;
-#[cfg(test)]
-mod tests;
 mod text;
 
 pub use bytes::{decode, encode};
 pub use digits::Digits;
+pub use encoded::is_encoded;
 pub use laws::{byte_bounds, one_encoding, one_text, order, order_by_value, text_bound};
 pub use number::Number;
 pub use text::{parse_canonical, print};

@@ -8,7 +8,7 @@ ghost use Rattle.m_number.specs.Number.{numeral_of};
 use crate::{Digits, Number};
 use arrayvec::ArrayVec;
 
-// No text of a number is longer.
+/// No text of a number is longer.
 const LONGEST: usize = 62;
 
 /// The number that the text spells, where it is a canonical text.
@@ -40,7 +40,7 @@ pub fn print(number: &Number) -> ArrayVec<u8, 64>
     text
 }
 
-// Appends a number without its sign.
+/// Appends a number without its sign.
 fn push_size(text: &mut ArrayVec<u8, 64>, digits: &[u8], exponent: i8)
     requires decimal { All (λ d. d < 10) digits.now }
     requires count { length digits.now ≤ 18 }
@@ -60,7 +60,7 @@ fn push_size(text: &mut ArrayVec<u8, 64>, digits: &[u8], exponent: i8)
     }
 }
 
-// Appends a number of 1 or more, so many digits of which are whole.
+/// Appends a number of 1 or more, so many digits of which are whole.
 fn push_large(text: &mut ArrayVec<u8, 64>, digits: &[u8], whole: usize)
     requires decimal { All (λ d. d < 10) digits.now }
     requires count { length digits.now ≤ 18 }
@@ -97,7 +97,7 @@ fn push_zeros(text: &mut ArrayVec<u8, 64>, count: usize)
     }
 }
 
-// The number that the text spells, if it spells one.
+/// The number that the text spells, if it spells one.
 fn candidate(text: &[u8]) -> Option<Number>
     requires { length text.now ≤ LONGEST }
     ensures { (n : Numeral) → IsNumeral n → text_of n ≡ text.now → IsSomeAnd result (λ r. numeral_of r ≡ n) }
@@ -108,7 +108,7 @@ fn candidate(text: &[u8]) -> Option<Number>
     }
 }
 
-// The same of a text behind its sign.
+/// The same of a text behind its sign.
 fn candidate_of_size(negative: bool, size: &[u8]) -> Option<Number>
     requires { length size.now ≤ LONGEST }
     ensures { (n : Numeral) → IsNumeral n → n.negative ≡ negative → size_text n.digits n.exponent ≡ size.now
@@ -123,7 +123,7 @@ fn candidate_of_size(negative: bool, size: &[u8]) -> Option<Number>
     }
 }
 
-// The same of a text that doesn't begin with a point.
+/// The same of a text that doesn't begin with a point.
 fn candidate_of_large(negative: bool, size: &[u8]) -> Option<Number>
     requires { length size.now ≤ LONGEST }
     ensures { (n : Numeral) → IsNumeral n → n.negative ≡ negative → size_text n.digits n.exponent ≡ size.now
@@ -143,7 +143,7 @@ fn candidate_of_large(negative: bool, size: &[u8]) -> Option<Number>
     }
 }
 
-// How many bytes stand before the point.
+/// How many bytes stand before the point.
 fn whole_len(text: &[u8]) -> usize
     ensures value { result ≡ prefix_len (λ c. not (c == 46)) text.now }
     ensures bound { result ≤ length text.now }
@@ -151,7 +151,7 @@ fn whole_len(text: &[u8]) -> usize
     text.iter().take_while(|c| **c != b'.').count()
 }
 
-// How many zeros the text begins with.
+/// How many zeros the text begins with.
 fn zeros_len(text: &[u8]) -> usize
     ensures value { result ≡ prefix_len (λ c. c == 48) text.now }
     ensures bound { result ≤ length text.now }
@@ -159,7 +159,7 @@ fn zeros_len(text: &[u8]) -> usize
     text.iter().take_while(|c| **c == b'0').count()
 }
 
-// How many zeros the text ends with.
+/// How many zeros the text ends with.
 fn end_zeros_len(text: &[u8]) -> usize
     ensures value { result ≡ suffix_len (λ c. c == 48) text.now }
     ensures bound { result ≤ length text.now }
@@ -167,7 +167,7 @@ fn end_zeros_len(text: &[u8]) -> usize
     text.iter().rev().take_while(|c| **c == b'0').count()
 }
 
-// The number with the digits of both parts.
+/// The number with the digits of both parts.
 fn number_of(negative: bool, front: &[u8], back: &[u8], exponent: i8) -> Option<Number>
     ensures { (n : Numeral) → IsNumeral n → n.negative ≡ negative → codes_of n.digits ≡ front.now ++ back.now
         → n.exponent ≡ exponent → IsSomeAnd result (λ r. numeral_of r ≡ n) }

@@ -1,21 +1,23 @@
 -- The subscripts at the front of a text, one after another.
-use Rattle.std.proofs.Common.{◌≡◌, ℕ, suc, ◌+◌, ◌-◌, ◌<◌, ◌≤◌, ℤ, pos, negsuc, Bool, true, false, ◌||◌, eqb, leb, List, [], ◌∷◌, ◌++◌, length, take, drop, map, flat_map, replicate, Option, None, Some, refl, sym, ap, ◌∙◌, subst, arith, inl, inr, ◌⊎◌, ⊎_elim, length-append}
+use Rattle.std.proofs.Common.{◌≡◌, ℕ, suc, ◌+◌, ◌-◌, ◌<◌, ◌≤◌, ℤ, pos, negsuc, Bool, true, false, ◌||◌, eqb, leb, List}
+use Rattle.std.proofs.Common.{[], ◌∷◌, ◌++◌, length, take, drop, map, flat_map, replicate, Option, None, Some, refl}
+use Rattle.std.proofs.Common.{sym, ap, ◌∙◌, subst, arith, inl, inr, ◌⊎◌, ⊎_elim, length-append}
 use Rattle.std.specs.List.{prefix_len, AllByRecursion}
 use Rattle.std.proofs.lemmas.List.{append_assoc, append-nil, take_at, drop_at, take-append-drop, length-map}
-use Rattle.std.proofs.lemmas.Bool.{eqb-true, eqb-false}
+use Rattle.std.proofs.lemmas.Bool.{eqb-true, eqb-false, cond-true, cases_Bool, cond-false}
 use Rattle.m_number.specs.Numeral.{Numeral, IsNumeral}
 use Rattle.m_number.specs.Text.{text_of, size_text, nonzero_text, large_text, codes_of}
 use Rattle.m_key.specs.Node.{NodeSubscript, number, IsSubscript, spelled}
 use Rattle.m_key.specs.Node.{string as text_node}
-use Rattle.m_text.specs.Grammar.{joined, Piece, piece_text, piece_bytes, IsPiece, Expression, bare, string, expression_text, expression_bytes, IsExpression}
+use Rattle.m_text.specs.Grammar.{joined, Piece, piece_text, piece_bytes, IsPiece, Expression, bare, string}
+use Rattle.m_text.specs.Grammar.{expression_text, expression_bytes, IsExpression}
 use Rattle.m_text.specs.Reading.{Found, leads, string_at, is_number_byte}
-use Rattle.m_text.specs.Standing.{StandsAt, IsEnded, ListStandsAt, StandsBefore}
-use Rattle.m_text.proofs.Found.{pair_of}
-use Rattle.m_text.proofs.Conditions.{yes, no, bool_cases}
-use Rattle.m_text.proofs.Fronts.{heads, prefix_len-append, prefix_len-no}
-use Rattle.m_text.proofs.Pieces.{string_at-found, string_at-again}
-use Rattle.m_text.proofs.Numbers.{number_bytes}
-use Rattle.m_text.proofs.Values.{piece_head}
+use Rattle.m_text.specs.Standing.{StandsAt, IsEnded, ListStandsAt, ListStandsAfter}
+use Rattle.m_text.proofs.FoundLemmas.{pair_of}
+use Rattle.m_text.proofs.FrontLemmas.{heads, prefix_len-append, prefix_len-no}
+use Rattle.m_text.proofs.PieceLemmas.{string_at-found, string_at-again}
+use Rattle.m_text.proofs.NumberLemmas.{number_bytes}
+use Rattle.m_text.proofs.ValueLemmas.{piece_head}
 
 -- a number's text isn't empty
 
@@ -24,10 +26,17 @@ large_some ds whole l =
     let P : List ℕ → Type 0 = λ t. 0 < length t in
     ⊎_elim
     (λ (q : leb (length ds) whole ≡ true).
-    subst P (sym (yes (leb (length ds) whole) _ _ q)) (omega (arith, length-append (codes_of ds) (replicate (whole - length ds) 48), length-map ds (λ (d : ℕ). 48 + d))))
+    subst P (sym (cond-true (leb (length ds) whole) _ _ q)) (omega (
+      arith,
+      length-append (codes_of ds) (replicate (whole - length ds) 48),
+      length-map ds (λ (d : ℕ). 48 + d),
+    )))
     (λ (q : leb (length ds) whole ≡ false).
-    subst P (sym (no (leb (length ds) whole) _ _ q)) (omega (arith, length-append (codes_of (take whole ds)) (46 ∷ codes_of (drop whole ds)))))
-    (bool_cases (leb (length ds) whole))
+    subst P (sym (cond-false (leb (length ds) whole) _ _ q)) (omega (
+      arith,
+      length-append (codes_of (take whole ds)) (46 ∷ codes_of (drop whole ds)),
+    )))
+    (cases_Bool (leb (length ds) whole))
 
 nonzero_some : (ds : List ℕ) (e : ℤ) → 0 < length ds → 0 < length (nonzero_text ds e)
 nonzero_some ds (pos e) l = large_some ds (e + 1) l
@@ -37,18 +46,19 @@ size_some : (ds : List ℕ) (e : ℤ) → 0 < length (size_text ds e)
 size_some ds e =
     let P : List ℕ → Type 0 = λ t. 0 < length t in
     ⊎_elim
-    (λ (q : eqb (length ds) 0 ≡ true). subst P (sym (yes (eqb (length ds) 0) _ _ q)) (omega arith))
-    (λ (q : eqb (length ds) 0 ≡ false). let n = eqb-false (length ds) 0 q in subst P (sym (no (eqb (length ds) 0) _ _ q)) (nonzero_some ds e (omega (arith, n))))
-    (bool_cases (eqb (length ds) 0))
+    (λ (q : eqb (length ds) 0 ≡ true). subst P (sym (cond-true (eqb (length ds) 0) _ _ q)) (omega arith))
+    (λ (q : eqb (length ds) 0 ≡ false). let n = eqb-false (length ds) 0 q in
+    subst P (sym (cond-false (eqb (length ds) 0) _ _ q)) (nonzero_some ds e (omega (arith, n))))
+    (cases_Bool (eqb (length ds) 0))
 
 pub number_some : (n : Numeral) → 0 < length (text_of n)
 unfolding text_of
 number_some n =
     let P : List ℕ → Type 0 = λ t. 0 < length t in
     ⊎_elim
-    (λ (q : n.negative ≡ true). subst P (sym (yes n.negative _ _ q)) (omega arith))
-    (λ (q : n.negative ≡ false). subst P (sym (no n.negative _ _ q)) (size_some n.digits n.exponent))
-    (bool_cases n.negative)
+    (λ (q : n.negative ≡ true). subst P (sym (cond-true n.negative _ _ q)) (omega arith))
+    (λ (q : n.negative ≡ false). subst P (sym (cond-false n.negative _ _ q)) (size_some n.digits n.exponent))
+    (cases_Bool n.negative)
 
 pub spelled_some : (s : NodeSubscript) → IsSubscript s → 0 < length (spelled s)
 spelled_some (number n) h = number_some n
@@ -75,7 +85,8 @@ ended (x ∷ xs) e = record {
       (or_cases (eqb x 44) (eqb x 41) e);
 }
 
-apart : (F : List ℕ → Bool) → ((xs : List ℕ) → F (44 ∷ xs) ≡ false) → ((xs : List ℕ) → F (41 ∷ xs) ≡ false) → (rest : List ℕ) → IsEnded rest → F rest ≡ false
+apart : (F : List ℕ → Bool) → ((xs : List ℕ) → F (44 ∷ xs) ≡ false) → ((xs : List ℕ) → F (41 ∷ xs) ≡ false)
+    → (rest : List ℕ) → IsEnded rest → F rest ≡ false
 apart F a b rest e =
     let h = ended rest e in
     ⊎_elim
@@ -96,18 +107,24 @@ prefix_none : (text : List ℕ) → heads is_number_byte text ≡ false → pref
 prefix_none [] h = refl
 prefix_none (b ∷ bs) h = prefix_len-no is_number_byte b bs h
 
-pub bare_len : (n : Numeral) (rest : List ℕ) → IsNumeral n → IsEnded rest → prefix_len is_number_byte (text_of n ++ rest) ≡ length (text_of n)
+pub bare_len : (n : Numeral) (rest : List ℕ) → IsNumeral n → IsEnded rest
+    → prefix_len is_number_byte (text_of n ++ rest) ≡ length (text_of n)
 bare_len n rest h e = prefix_len-append is_number_byte (text_of n) rest (number_bytes n h) (ended_no_number rest e)
 
-pub string_len : (pieces : List Piece) (rest : List ℕ) → 0 < length pieces → prefix_len is_number_byte (joined 95 (map piece_text pieces) ++ rest) ≡ 0
+pub string_len : (pieces : List Piece) (rest : List ℕ) → 0 < length pieces
+    → prefix_len is_number_byte (joined 95 (map piece_text pieces) ++ rest) ≡ 0
 string_len [] rest l = absurd (omega (arith, l))
 string_len (first ∷ others) rest l =
     let tail : List ℕ = flat_map (λ (next : List ℕ). 95 ∷ next) (map piece_text others) in
-    prefix_none ((piece_text first ++ tail) ++ rest) (ap (heads is_number_byte) (append_assoc (piece_text first) tail rest) ∙ piece_head first (tail ++ rest))
+    prefix_none ((piece_text first ++ tail)
+    ++ rest) (ap (heads is_number_byte) (append_assoc (piece_text first) tail rest)
+    ∙ piece_head first (tail ++ rest))
 
-string_again : (pieces : List Piece) (rest : List ℕ) → 0 < length pieces → AllByRecursion IsPiece pieces → IsEnded rest → string_at (joined 95 (map piece_text pieces) ++ rest) ≡ Some (flat_map piece_bytes pieces, rest)
+string_again : (pieces : List Piece) (rest : List ℕ) → 0 < length pieces → AllByRecursion IsPiece pieces → IsEnded rest
+    → string_at (joined 95 (map piece_text pieces) ++ rest) ≡ Some (flat_map piece_bytes pieces, rest)
 string_again [] rest l right e = absurd (omega (arith, l))
-string_again (first ∷ others) rest l right e = string_at-again first others rest right (ended_no_quote rest e) (ended_no_more rest e)
+string_again (first ∷ others) rest l right e =
+    string_at-again first others rest right (ended_no_quote rest e) (ended_no_more rest e)
 
 -- A number stands at the front.
 pub record IsBareAt (text : List ℕ) (n : ℕ) (rest : List ℕ) : Type 0 where
@@ -116,7 +133,8 @@ pub record IsBareAt (text : List ℕ) (n : ℕ) (rest : List ℕ) : Type 0 where
   pub written : text_of it ≡ take n text
   pub behind : rest ≡ drop n text
 
-bare_at : (e : Expression) (text : List ℕ) (n : ℕ) (rest : List ℕ) → n ≡ prefix_len is_number_byte text → 0 < n → IsExpression e → IsEnded rest → text ≡ expression_text e ++ rest → IsBareAt text n rest
+bare_at : (e : Expression) (text : List ℕ) (n : ℕ) (rest : List ℕ) → n ≡ prefix_len is_number_byte text → 0 < n
+    → IsExpression e → IsEnded rest → text ≡ expression_text e ++ rest → IsBareAt text n rest
 bare_at (bare m) text n rest count l right ended w =
     let size : length (text_of m) ≡ n = sym (count ∙ ap (prefix_len is_number_byte) w ∙ bare_len m rest right ended) in
     record {
@@ -129,10 +147,12 @@ bare_at (string pieces) text n rest count l right ended w =
     let none : n ≡ 0 = count ∙ ap (prefix_len is_number_byte) w ∙ string_len pieces rest right.0 in
     absurd (omega (arith, none))
 
-pub number_at : (text : List ℕ) (n : ℕ) (s : NodeSubscript) (rest : List ℕ) → n ≡ prefix_len is_number_byte text → 0 < n → IsEnded rest → StandsAt text s rest → IsBareAt text n rest
+pub number_at : (text : List ℕ) (n : ℕ) (s : NodeSubscript) (rest : List ℕ) → n ≡ prefix_len is_number_byte text
+    → 0 < n → IsEnded rest → StandsAt text s rest → IsBareAt text n rest
 number_at text n s rest count l ended h = bare_at h.expression text n rest count l h.right ended h.written
 
-pub number_stands : (text : List ℕ) (n : ℕ) (m : Numeral) → IsNumeral m → text_of m ≡ take n text → StandsAt text (number m) (drop n text)
+pub number_stands : (text : List ℕ) (n : ℕ) (m : Numeral) → IsNumeral m → text_of m ≡ take n text
+    → StandsAt text (number m) (drop n text)
 number_stands text n m h e = record {
   expression = bare m;
   right = h;
@@ -141,26 +161,39 @@ number_stands text n m h e = record {
 }
 
 -- A string stands at the front.
-string_from : (e : Expression) (text : List ℕ) (rest bytes : List ℕ) → prefix_len is_number_byte text ≡ 0 → IsExpression e → IsEnded rest → text ≡ expression_text e ++ rest → expression_bytes e ≡ bytes → string_at text ≡ Some (bytes, rest)
+string_from : (e : Expression) (text : List ℕ) (rest bytes : List ℕ) → prefix_len is_number_byte text ≡ 0
+    → IsExpression e → IsEnded rest → text ≡ expression_text e ++ rest → expression_bytes e ≡ bytes
+    → string_at text ≡ Some (bytes, rest)
 string_from (bare m) text rest bytes none right ended w b =
     let size = bare_len m rest right ended in
-    let same : prefix_len is_number_byte text ≡ prefix_len is_number_byte (text_of m ++ rest) = ap (prefix_len is_number_byte) w in
+    let same : prefix_len is_number_byte text ≡ prefix_len is_number_byte (text_of m ++ rest) =
+    ap (prefix_len is_number_byte) w in
     let some = number_some m in
     absurd (omega (arith, none, size, same, some))
 string_from (string pieces) text rest bytes none right ended w b =
     ap string_at w ∙ string_again pieces rest right.0 right.1 ended ∙ ap (λ (t : List ℕ). Some (t, rest)) b
 
-pub string_read_at : (text : List ℕ) (s : NodeSubscript) (rest : List ℕ) → prefix_len is_number_byte text ≡ 0 → IsEnded rest → StandsAt text s rest → string_at text ≡ Some (spelled s, rest)
-string_read_at text s rest none ended h = string_from h.expression text rest (spelled s) none h.right ended h.written h.meant
+pub string_read_at : (text : List ℕ) (s : NodeSubscript) (rest : List ℕ) → prefix_len is_number_byte text ≡ 0
+    → IsEnded rest → StandsAt text s rest → string_at text ≡ Some (spelled s, rest)
+string_read_at text s rest none ended h =
+    string_from h.expression text rest (spelled s) none h.right ended h.written h.meant
 
-pub string_stands : (text bytes rest : List ℕ) (s : NodeSubscript) → string_at text ≡ Some (bytes, rest) → spelled s ≡ bytes → StandsAt text s rest
+pub string_stands : (text bytes rest : List ℕ) (s : NodeSubscript) → string_at text ≡ Some (bytes, rest)
+    → spelled s ≡ bytes → StandsAt text s rest
 string_stands text bytes rest s e m =
     let h = string_at-found text bytes rest e in
-    record { expression = string (h.first ∷ h.others); right = (omega arith, h.right); written = h.written; meant = sym (m ∙ h.meant) }
+    record {
+      expression = string (h.first ∷ h.others);
+      right = (omega arith, h.right);
+      written = h.written;
+      meant =
+          sym (m ∙ h.meant);
+    }
 
 -- lists
 
-pub list_last : (text : List ℕ) (s : NodeSubscript) (rest : List ℕ) → StandsAt text s (41 ∷ rest) → ListStandsAt text (s ∷ []) rest
+pub list_last : (text : List ℕ) (s : NodeSubscript) (rest : List ℕ) → StandsAt text s (41 ∷ rest)
+    → ListStandsAt text (s ∷ []) rest
 list_last text s rest h = record {
   expressions = h.expression ∷ [];
   some = omega arith;
@@ -169,17 +202,23 @@ list_last text s rest h = record {
   meant = ap (λ (t : List ℕ). t ∷ []) h.meant;
 }
 
-more_form : (e : Expression) (es : List Expression) (rest : List ℕ) → 0 < length es → expression_text e ++ 44 ∷ (joined 44 (map expression_text es) ++ rest) ≡ joined 44 (map expression_text (e ∷ es)) ++ rest
+more_form : (e : Expression) (es : List Expression) (rest : List ℕ) → 0 < length es
+    → expression_text e ++ 44 ∷ (joined 44 (map expression_text es) ++ rest)
+    ≡ joined 44 (map expression_text (e ∷ es)) ++ rest
 more_form e [] rest l = absurd (omega (arith, l))
-more_form e (x ∷ xs) rest l = sym (append_assoc (expression_text e) (44 ∷ joined 44 (map expression_text (x ∷ xs))) rest)
+more_form e (x ∷ xs) rest l =
+    sym (append_assoc (expression_text e) (44 ∷ joined 44 (map expression_text (x ∷ xs))) rest)
 
-pub list_more : (text : List ℕ) (s : NodeSubscript) (more : List ℕ) (ss : List NodeSubscript) (rest : List ℕ) → StandsAt text s (44 ∷ more) → ListStandsAt more ss rest → ListStandsAt text (s ∷ ss) rest
+pub list_more : (text : List ℕ) (s : NodeSubscript) (more : List ℕ) (ss : List NodeSubscript) (rest : List ℕ)
+    → StandsAt text s (44 ∷ more) → ListStandsAt more ss rest → ListStandsAt text (s ∷ ss) rest
 list_more text s more ss rest h l = record {
   expressions = h.expression ∷ l.expressions;
   some = omega arith;
   right = (h.right, l.right);
-  written = h.written ∙ ap (λ (t : List ℕ). expression_text h.expression ++ 44 ∷ t) l.written ∙ more_form h.expression l.expressions (41 ∷ rest) l.some;
-  meant = ap (λ (t : List ℕ). t ∷ map expression_bytes l.expressions) h.meant ∙ ap (λ (t : List (List ℕ)). spelled s ∷ t) l.meant;
+  written = h.written ∙ ap (λ (t : List ℕ). expression_text h.expression ++ 44 ∷ t) l.written
+      ∙ more_form h.expression l.expressions (41 ∷ rest) l.some;
+  meant = ap (λ (t : List ℕ). t ∷ map expression_bytes l.expressions) h.meant
+      ∙ ap (λ (t : List (List ℕ)). spelled s ∷ t) l.meant;
 }
 
 -- the first of a list, and the others
@@ -187,9 +226,12 @@ pub record First (text : List ℕ) (ss : List NodeSubscript) (rest : List ℕ) :
   pub s : NodeSubscript
   pub others : List NodeSubscript
   pub are : ss ≡ s ∷ others
-  pub is : (StandsAt text s (41 ∷ rest) × (others ≡ [])) ⊎ ((more : List ℕ) × StandsAt text s (44 ∷ more) × ListStandsAt more others rest)
+  pub is : (StandsAt text s (41 ∷ rest) × (others ≡ []))
+      ⊎ ((more : List ℕ) × StandsAt text s (44 ∷ more) × ListStandsAt more others rest)
 
-first_from : (es : List Expression) (text : List ℕ) (ss : List NodeSubscript) (rest : List ℕ) → 0 < length es → AllByRecursion IsExpression es → text ≡ joined 44 (map expression_text es) ++ 41 ∷ rest → map expression_bytes es ≡ map spelled ss → First text ss rest
+first_from : (es : List Expression) (text : List ℕ) (ss : List NodeSubscript) (rest : List ℕ) → 0 < length es
+    → AllByRecursion IsExpression es → text ≡ joined 44 (map expression_text es) ++ 41 ∷ rest
+    → map expression_bytes es ≡ map spelled ss → First text ss rest
 first_from [] text ss rest l right w m = absurd (omega (arith, l))
 first_from (e ∷ es) text [] rest l right w m = absurd (cc)
 first_from (e ∷ []) text (s ∷ []) rest l right w m =
@@ -198,7 +240,16 @@ first_from (e ∷ []) text (s ∷ []) rest l right w m =
       s = s;
       others = [];
       are = refl;
-      is = inl (record { expression = e; right = right.0; written = w ∙ ap (λ (t : List ℕ). t ++ 41 ∷ rest) (append-nil (expression_text e)); meant = head }, refl);
+      is = inl (
+        record {
+          expression = e;
+          right = right.0;
+          written = w
+              ∙ ap (λ (t : List ℕ). t ++ 41 ∷ rest) (append-nil (expression_text e));
+          meant = head;
+        },
+        refl,
+      );
     }
 first_from (e ∷ []) text (s ∷ t ∷ ss) rest l right w m = absurd (cc)
 first_from (e ∷ x ∷ xs) text (s ∷ ss) rest l right w m =
@@ -210,20 +261,32 @@ first_from (e ∷ x ∷ xs) text (s ∷ ss) rest l right w m =
       are = refl;
       is = inr (
         joined 44 (map expression_text (x ∷ xs)) ++ 41 ∷ rest,
-        record { expression = e; right = right.0; written = w ∙ append_assoc (expression_text e) (44 ∷ joined 44 (map expression_text (x ∷ xs))) (41 ∷ rest); meant = head },
+        record {
+          expression = e;
+          right = right.0;
+          written = w
+              ∙ append_assoc (expression_text e) (44 ∷ joined 44 (map expression_text (x ∷ xs))) (41 ∷ rest);
+          meant =
+              head;
+        },
         record { expressions = x ∷ xs; some = omega arith; right = right.1; written = refl; meant = tail },
       );
     }
 
-pub first_of_list : (text : List ℕ) (ss : List NodeSubscript) (rest : List ℕ) → ListStandsAt text ss rest → First text ss rest
+pub first_of_list : (text : List ℕ) (ss : List NodeSubscript) (rest : List ℕ) → ListStandsAt text ss rest
+    → First text ss rest
 first_of_list text ss rest h = first_from h.expressions text ss rest h.some h.right h.written h.meant
 
 -- one more of the list was read, or the last, or none
 
-after_is : (text after more rest : List ℕ) (s : NodeSubscript) (by : ℕ) → ((t : NodeSubscript) (r : List ℕ) → IsEnded r → StandsAt text t r → r ≡ after) → ((xs : List ℕ) → IsEnded (by ∷ xs)) → StandsAt text s (by ∷ more) → by ∷ more ≡ after
+after_is : (text after more rest : List ℕ) (s : NodeSubscript) (by : ℕ)
+    → ((t : NodeSubscript) (r : List ℕ) → IsEnded r → StandsAt text t r → r ≡ after)
+    → ((xs : List ℕ) → IsEnded (by ∷ xs)) → StandsAt text s (by ∷ more) → by ∷ more ≡ after
 after_is text after more rest s by only e h = only s (by ∷ more) (e more) h
 
-pub goes_step : (text after more rest : List ℕ) (i : ℕ) → ((t : NodeSubscript) (r : List ℕ) → IsEnded r → StandsAt text t r → r ≡ after) → after ≡ 44 ∷ more → StandsBefore text i rest → StandsBefore more (i + 1) rest
+pub goes_step : (text after more rest : List ℕ) (i : ℕ)
+    → ((t : NodeSubscript) (r : List ℕ) → IsEnded r → StandsAt text t r → r ≡ after) → after ≡ 44 ∷ more
+    → ListStandsAfter text i rest → ListStandsAfter more (i + 1) rest
 goes_step text after more rest i only e g =
     let f = first_of_list text g.ss rest g.stand in
     ⊎_elim
@@ -240,7 +303,9 @@ goes_step text after more rest i only e g =
     record { ss = f.others; right = right.1; count = omega (arith, size, g.count); stand = subst P behind next.2 })
     f.is
 
-pub goes_end : (text after more rest : List ℕ) (i : ℕ) → ((t : NodeSubscript) (r : List ℕ) → IsEnded r → StandsAt text t r → r ≡ after) → after ≡ 41 ∷ more → StandsBefore text i rest → rest ≡ more
+pub goes_end : (text after more rest : List ℕ) (i : ℕ)
+    → ((t : NodeSubscript) (r : List ℕ) → IsEnded r → StandsAt text t r → r ≡ after) → after ≡ 41 ∷ more
+    → ListStandsAfter text i rest → rest ≡ more
 goes_end text after more rest i only e g =
     let f = first_of_list text g.ss rest g.stand in
     ⊎_elim
@@ -252,7 +317,9 @@ goes_end text after more rest i only e g =
     absurd (cc))
     f.is
 
-pub goes_stuck : (text after rest : List ℕ) (i : ℕ) → ((t : NodeSubscript) (r : List ℕ) → IsEnded r → StandsAt text t r → r ≡ after) → leads 44 after ≡ false → leads 41 after ≡ false → StandsBefore text i rest → ⊥
+pub goes_stuck : (text after rest : List ℕ) (i : ℕ)
+    → ((t : NodeSubscript) (r : List ℕ) → IsEnded r → StandsAt text t r → r ≡ after) → leads 44 after ≡ false
+    → leads 41 after ≡ false → ListStandsAfter text i rest → ⊥
 goes_stuck text after rest i only no_more no_end g =
     let f = first_of_list text g.ss rest g.stand in
     ⊎_elim
@@ -264,17 +331,20 @@ goes_stuck text after rest i only no_more no_end g =
     absurd (cc))
     f.is
 
-pub goes_none : (text rest : List ℕ) (i : ℕ) → ((t : NodeSubscript) (r : List ℕ) → IsSubscript t → IsEnded r → StandsAt text t r → ⊥) → StandsBefore text i rest → ⊥
+pub goes_none : (text rest : List ℕ) (i : ℕ)
+    → ((t : NodeSubscript) (r : List ℕ) → IsSubscript t → IsEnded r → StandsAt text t r → ⊥)
+    → ListStandsAfter text i rest → ⊥
 goes_none text rest i none g =
     let f = first_of_list text g.ss rest g.stand in
     let Q : List NodeSubscript → Type 0 = λ ss. AllByRecursion IsSubscript ss in
     let right : AllByRecursion IsSubscript (f.s ∷ f.others) = subst Q f.are g.right in
     ⊎_elim
     (λ (last : StandsAt text f.s (41 ∷ rest) × (f.others ≡ [])). none f.s (41 ∷ rest) right.0 refl last.0)
-    (λ (next : (m : List ℕ) × StandsAt text f.s (44 ∷ m) × ListStandsAt m f.others rest). none f.s (44 ∷ next.0) right.0 refl next.1)
+    (λ (next : (m : List ℕ) × StandsAt text f.s (44 ∷ m)
+    × ListStandsAt m f.others rest). none f.s (44 ∷ next.0) right.0 refl next.1)
     f.is
 
-pub goes_full : (text rest : List ℕ) (i : ℕ) → 31 ≤ i → StandsBefore text i rest → ⊥
+pub goes_full : (text rest : List ℕ) (i : ℕ) → 31 ≤ i → ListStandsAfter text i rest → ⊥
 goes_full text rest i l g =
     let f = first_of_list text g.ss rest g.stand in
     let size : length g.ss ≡ suc (length f.others) = ap length f.are in
@@ -283,11 +353,13 @@ goes_full text rest i l g =
 pub none_read : (text a b : List ℕ) → string_at text ≡ None → string_at text ≡ Some (a, b) → ⊥
 none_read text a b n e = let wrong : ◌≡◌ {A = Option Found} None (Some (a, b)) = sym n ∙ e in cc
 
-pub empty_read : (text bytes behind rest : List ℕ) (s : NodeSubscript) → IsSubscript s → string_at text ≡ Some (bytes, behind) → string_at text ≡ Some (spelled s, rest) → length bytes ≡ 0 → ⊥
+pub empty_read : (text bytes behind rest : List ℕ) (s : NodeSubscript) → IsSubscript s
+    → string_at text ≡ Some (bytes, behind) → string_at text ≡ Some (spelled s, rest) → length bytes ≡ 0 → ⊥
 empty_read text bytes behind rest s right e f l =
     let same : bytes ≡ spelled s = (pair_of bytes behind (spelled s) rest (sym e ∙ f)).0 in
     let some = spelled_some s right in
     omega (arith, l, ap length same, some)
 
-pub same_rest : (text bytes behind a rest : List ℕ) → string_at text ≡ Some (bytes, behind) → string_at text ≡ Some (a, rest) → rest ≡ behind
+pub same_rest : (text bytes behind a rest : List ℕ) → string_at text ≡ Some (bytes, behind)
+    → string_at text ≡ Some (a, rest) → rest ≡ behind
 same_rest text bytes behind a rest e f = sym (pair_of bytes behind a rest (sym e ∙ f)).1

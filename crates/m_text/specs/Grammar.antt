@@ -1,6 +1,8 @@
--- The texts of values and references, by syntax trees, as ASCII codes: 34 is '"', 40 is '(', 41 is ')', 44 is ',', 94 is
+-- The texts of values and references, by syntax trees, as ASCII codes: 34 is '"', 40 is '(', 41 is ')', 44 is ',', 94
+-- is
 -- '^' and 95 is '_'.
-use Rattle.std.specs.Prelude.{◌≡◌, ℕ, ◌+◌, ◌-◌, ◌*◌, ◌==◌, ◌<◌, ◌≤◌, List, [], ◌∷◌, ◌++◌, length, map, flat_map, fold, IsTrue, codes, if◌then◌else◌}
+use Rattle.std.specs.Prelude.{◌≡◌, ℕ, ◌+◌, ◌-◌, ◌*◌, ◌==◌, ◌<◌, ◌≤◌, List, [], ◌∷◌, ◌++◌, length, map, flat_map, fold}
+use Rattle.std.specs.Prelude.{IsTrue, codes, if◌then◌else◌}
 use Rattle.std.specs.Char.{is_ascii_digit}
 use Rattle.std.specs.List.{list_all, AllByRecursion}
 use Rattle.m_number.specs.Numeral.{Numeral, IsNumeral}

@@ -25,8 +25,8 @@ pub record ListStandsAt (text : List ℕ) (ss : List NodeSubscript) (rest : List
   pub written : text ≡ joined 44 (map expression_text expressions) ++ 41 ∷ rest
   pub meant : map expression_bytes expressions ≡ map spelled ss
 
--- of these subscripts, some stand at the front of the text, after so many others
-pub record StandsBefore (text : List ℕ) (before : ℕ) (rest : List ℕ) : Type 0 where
+-- subscripts and a ')' stand at the front of the text, and with those before them there are 31 at most
+pub record ListStandsAfter (text : List ℕ) (before : ℕ) (rest : List ℕ) : Type 0 where
   pub ss : List NodeSubscript
   pub right : AllByRecursion IsSubscript ss
   pub count : before + length ss ≤ 31

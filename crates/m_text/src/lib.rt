@@ -13,6 +13,3 @@ pub use laws::{one_reference, one_value, written_reference, written_value};
 pub use printing::{print_reference, print_value};
 pub use reference::read_reference;
 pub use value::read_value;
-
-#[cfg(test)]
-mod tests;

@@ -33,7 +33,7 @@ pub fn print_reference(reference: &Reference, out: &mut Vec<u8>) -> Result<(), A
     pushed
 }
 
-#[tactic(auto, using(crate::proofs::Begins::begins), unfolding(crate::specs::Written::value_text))]
+#[tactic(auto, using(crate::proofs::BeginLemmas::begins), unfolding(crate::specs::Written::value_text))]
 fn push_value(value: &[u8], out: &mut Vec<u8>) -> Result<(), AllocError>
     ensures ok { OnOk result (out.new.items ≡ out.old.items ++ value_text value.now) }
     ensures err { OnErr result (take (length out.old.items) out.new.items ≡ out.old.items) }
@@ -49,8 +49,8 @@ fn push_value(value: &[u8], out: &mut Vec<u8>) -> Result<(), AllocError>
     Ok(())
 }
 
-// Appends the first run of a value that isn't empty, and answers the bytes behind it.
-#[tactic(auto, using(crate::proofs::Begins::begins))]
+/// Appends the first run of a value that isn't empty, and answers the bytes behind it.
+#[tactic(auto, using(crate::proofs::BeginLemmas::begins))]
 fn push_run<'a>(value: &'a [u8], out: &mut Vec<u8>) -> Result<&'a [u8], AllocError>
     requires { 0 < length value.now }
     ensures ok { IfOk result (λ rest. out.new.items ++ more_runs_text (runs_of rest.now)
@@ -70,7 +70,7 @@ fn push_run<'a>(value: &'a [u8], out: &mut Vec<u8>) -> Result<&'a [u8], AllocErr
     }
 }
 
-#[tactic(auto, using(crate::proofs::Begins::begins), unfolding(crate::specs::Written::reference_text))]
+#[tactic(auto, using(crate::proofs::BeginLemmas::begins), unfolding(crate::specs::Written::reference_text))]
 fn push_reference(reference: &Reference, out: &mut Vec<u8>) -> Result<(), AllocError>
     ensures ok { OnOk result (out.new.items ≡ out.old.items ++ reference_text (node_of reference.now)) }
     ensures err { OnErr result (take (length out.old.items) out.new.items ≡ out.old.items) }
@@ -89,7 +89,7 @@ fn push_reference(reference: &Reference, out: &mut Vec<u8>) -> Result<(), AllocE
     }
 }
 
-#[tactic(auto, using(crate::proofs::Begins::begins))]
+#[tactic(auto, using(crate::proofs::BeginLemmas::begins))]
 fn push_others(subscripts: &[Subscript], out: &mut Vec<u8>) -> Result<(), AllocError>
     ensures ok { OnOk result (out.new.items
         ≡ out.old.items ++ flat_map (λ text. 44 ∷ text) (map subscript_text (map node_subscript_of subscripts.now))) }
@@ -102,7 +102,7 @@ fn push_others(subscripts: &[Subscript], out: &mut Vec<u8>) -> Result<(), AllocE
     Ok(())
 }
 
-#[tactic(auto, using(crate::proofs::Begins::begins))]
+#[tactic(auto, using(crate::proofs::BeginLemmas::begins))]
 fn push_subscript(subscript: &Subscript, out: &mut Vec<u8>) -> Result<(), AllocError>
     ensures ok { OnOk result (out.new.items ≡ out.old.items ++ subscript_text (node_subscript_of subscript.now)) }
     ensures err { OnErr result (take (length out.old.items) out.new.items ≡ out.old.items) }

@@ -27,7 +27,7 @@ pub(crate) fn unprintable_len(text: &[u8]) -> usize
 }
 
 /// Appends the bytes in quotes.
-#[tactic(auto, using(crate::proofs::Begins::begins))]
+#[tactic(auto, using(crate::proofs::BeginLemmas::begins))]
 pub(crate) fn push_quoted(run: &[u8], out: &mut Vec<u8>) -> Result<(), AllocError>
     ensures ok { OnOk result (out.new.items ≡ out.old.items ++ piece_text (quoted run.now)) }
     ensures err { OnErr result (take (length out.old.items) out.new.items ≡ out.old.items) }
@@ -46,7 +46,7 @@ pub(crate) fn push_quoted(run: &[u8], out: &mut Vec<u8>) -> Result<(), AllocErro
 }
 
 /// Appends the bytes by their codes. There is one at least.
-#[tactic(auto, using(crate::proofs::Begins::begins))]
+#[tactic(auto, using(crate::proofs::BeginLemmas::begins))]
 pub(crate) fn push_coded(run: &[u8], out: &mut Vec<u8>) -> Result<(), AllocError>
     requires { 0 < length run.now }
     ensures ok { OnOk result (out.new.items ≡ out.old.items ++ piece_text (coded c (map decimal run.now))) }
@@ -59,7 +59,7 @@ pub(crate) fn push_coded(run: &[u8], out: &mut Vec<u8>) -> Result<(), AllocError
     Ok(())
 }
 
-#[tactic(auto, using(crate::proofs::Begins::begins))]
+#[tactic(auto, using(crate::proofs::BeginLemmas::begins))]
 fn push_decimals(bytes: &[u8], out: &mut Vec<u8>) -> Result<(), AllocError>
     ensures ok { OnOk result (out.new.items ≡ out.old.items ++ flat_map (λ text. 44 ∷ text) (map decimal bytes.now)) }
     ensures err { OnErr result (take (length out.old.items) out.new.items ≡ out.old.items) }

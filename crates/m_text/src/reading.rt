@@ -36,7 +36,7 @@ fn read_piece<'a>(text: &'a [u8], out: &mut Vec<u8>) -> Result<Option<&'a [u8]>,
     }
 }
 
-// Takes the bytes in quotes, behind the first quote.
+/// Takes the bytes in quotes, behind the first quote.
 fn read_quoted<'a>(text: &'a [u8], out: &mut Vec<u8>) -> Result<Option<&'a [u8]>, AllocError>
     ensures { IfOk result (λ o. Appends out.old.items out.new.items (option_map (λ r. r.now) o) (quoted_at false text.now)) }
 {
@@ -54,7 +54,7 @@ fn read_quoted<'a>(text: &'a [u8], out: &mut Vec<u8>) -> Result<Option<&'a [u8]>
     Ok(None)
 }
 
-// The text behind one of the words before codes and '('.
+/// The text behind one of the words before codes and '('.
 fn behind_word(text: &[u8]) -> Option<&[u8]>
     ensures { option_map (λ r. r.now) result ≡ behind_word text.now }
 {
@@ -70,7 +70,7 @@ fn behind_word(text: &[u8]) -> Option<&[u8]>
     text.strip_prefix(b"$ZCHAR(")
 }
 
-// Takes the codes and the ')' behind them.
+/// Takes the codes and the ')' behind them.
 fn read_codes<'a>(text: &'a [u8], out: &mut Vec<u8>) -> Result<Option<&'a [u8]>, AllocError>
     ensures { IfOk result (λ o. Appends out.old.items out.new.items (option_map (λ r. r.now) o) (codes_at text.now)) }
 {
@@ -85,7 +85,7 @@ fn read_codes<'a>(text: &'a [u8], out: &mut Vec<u8>) -> Result<Option<&'a [u8]>,
     Ok(None)
 }
 
-// The code at the front of the text, and the text behind it.
+/// The code at the front of the text, and the text behind it.
 fn read_code(text: &[u8]) -> Option<(u8, &[u8])>
     ensures { option_map (λ found. (found.0 ∷ [], found.1.now)) result ≡ code_at text.now }
 {

@@ -36,7 +36,7 @@ pub fn read_reference(alloc: Global, text: &[u8]) -> Result<Option<(Reference, u
     }
 }
 
-// The longest name at the front of the text, and the text behind it.
+/// The longest name at the front of the text, and the text behind it.
 fn read_name(text: &[u8]) -> Option<(Name, &[u8])>
     ensures found { IfSome result (λ found. text.now ≡ name_bytes found.0 ++ found.1.now) }
     ensures longest { IfSome result (λ found. length (name_bytes found.0) ≡ longest_name text.now) }
@@ -47,7 +47,7 @@ fn read_name(text: &[u8]) -> Option<(Name, &[u8])>
     Some((name, &text[len..]))
 }
 
-// How many bytes a name at the front of the text has at most.
+/// How many bytes a name at the front of the text has at most.
 fn longest_name(text: &[u8]) -> usize
     ensures within { result ≤ length text.now }
     ensures value { result ≡ longest_name text.now }
@@ -67,7 +67,7 @@ fn alphanumeric_len(text: &[u8]) -> usize
         .count()
 }
 
-// The subscripts in parentheses at the front of the text, and the text behind them.
+/// The subscripts in parentheses at the front of the text, and the text behind them.
 fn read_list(alloc: Global, text: &[u8]) -> Result<Option<(Vec<Subscript>, &[u8])>, AllocError>
     ensures count { IfOk result (λ o. IfSome o (λ found. vec_len found.0 ≤ 31)) }
     ensures found { IfOk result (λ o. IfSome o (λ found. (inside : List ℕ) × (text.now ≡ 40 ∷ inside)

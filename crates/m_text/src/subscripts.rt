@@ -6,12 +6,9 @@ ghost use Rattle.m_text.specs.Reading.{is_number_byte};
 ghost use Rattle.m_text.specs.Standing.{StandsAt, IsEnded, ListStandsAt};
 
 use crate::reading::read_string;
-use m_key::{Subscript, subscript_of};
+use m_key::{SUBSCRIPT_LIMIT, Subscript, subscript_of};
 use m_number::parse_canonical;
 use std::alloc::{AllocError, Global};
-
-/// The most subscripts of a reference.
-const MOST: usize = 31;
 
 /// The subscripts at the front of the text, up to the ')' behind them, and the text behind that.
 pub(crate) fn read_subscripts(
@@ -29,7 +26,7 @@ pub(crate) fn read_subscripts(
     let mut items = Vec::new(alloc);
     let mut string = Vec::new(alloc);
     let mut rest = text;
-    for _i in 0..MOST {
+    for _i in 0..SUBSCRIPT_LIMIT {
         let Some((subscript, after)) = read_subscript(alloc, rest, &mut string)? else {
             return Ok(None);
         };
@@ -46,7 +43,7 @@ pub(crate) fn read_subscripts(
     Ok(None)
 }
 
-// The subscript at the front of the text, and the text behind it. What `string` holds doesn't matter.
+/// The subscript at the front of the text, and the text behind it. What `string` holds doesn't matter.
 fn read_subscript<'a>(
     alloc: Global,
     text: &'a [u8],
@@ -77,7 +74,7 @@ fn read_subscript<'a>(
     Ok(Some((subscript, rest)))
 }
 
-// How many bytes the text begins with that a number may have.
+/// How many bytes the text begins with that a number may have.
 fn number_len(text: &[u8]) -> usize
     ensures { result ≡ prefix_len is_number_byte text.now }
 {

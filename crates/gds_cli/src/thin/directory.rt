@@ -148,7 +148,8 @@ fn read_tree<H: Host>(
     requires limits { IsWithinLimits header.now }
     requires room { length block.old ≡ header.now.block_size }
     ensures some { IfOk result (λ o. IfSome o (λ tree. ForSome (H.told host.old) (λ c. IsHeaderOf header.now c.db
-        → (tree ≡ thin_tree_at c.db (valued entry.now)) × ((vs : List Valued) × IsGlobal c.db (valued entry.now) vs)))) }
+        → (tree ≡ thin_tree_at c.db (valued entry.now))
+        × ((vs : List Valued) × IsGlobal c.db (valued entry.now) vs)))) }
     ensures none { IfOk result (λ o. IfNone o (ForSome (H.told host.old) (λ c. IsHeaderOf header.now c.db
         → (vs : List Valued) → IsGlobal c.db (valued entry.now) vs → ⊥))) }
     ensures host { WasReadFor H.told H.failures host.old host.new result }

@@ -19,7 +19,8 @@ use std::alloc::{AllocError, Global};
 
 /// Says the two lines before the nodes.
 pub(crate) fn say_head<H: Host>(alloc: Global, host: &mut H, stamp: &[u8]) -> Result<(), Trouble>
-    ensures said { ForSome (H.told host.old) (λ c. SaidOf c (head_lines stamp.now (codes "ZWR")) result (H.told host.new)) }
+    ensures said { ForSome (H.told host.old) (λ c.
+        SaidOf c (head_lines stamp.now (codes "ZWR")) result (H.told host.new)) }
     ensures blamed { AreBlamed result (H.failures host.old) (H.failures host.new) }
     ensures changed { IfErr result (λ t. IsChange t → ⊥) }
 {

@@ -11,21 +11,25 @@ use Rattle.gds_cli.proofs.call.answer.Goals as goal
 
 pub returns-in-Ok-Version-clause-host : goal.returns-in-Ok-Version-clause-host
 returns-in-Ok-Version-clause-host g c = record {
-  told = goes_reply _ _ (command_in c.args.words.now) (Ok Version) (record { text = line (codes "GDSPROF1"); status = ended.Done })
+  told =
+      goes_reply _ _ (command_in c.args.words.now) (Ok Version)
+      (record { text = line (codes "GDSPROF1"); status = ended.Done })
       c.say.result (cc) (λ x. refl) c.say.ensures.host.told;
   failures = c.say.ensures.host.failures;
 }
 
 pub returns-in-Ok-Extract-clause-host : goal.returns-in-Ok-Extract-clause-host
 returns-in-Ok-Extract-clause-host g c = record {
-  told = goes_extract _ _ (command_in c.args.words.now) c.in-Ok-Extract.stamp c.deref.result.now c.extract.result (cc) (cc)
+  told =
+      goes_extract _ _ (command_in c.args.words.now) c.in-Ok-Extract.stamp c.deref.result.now c.extract.result (cc) (cc)
       c.extract.ensures.host.told;
   failures = c.extract.ensures.host.failures;
 }
 
 pub returns-in-Ok-clause-host : goal.returns-in-Ok-clause-host
 returns-in-Ok-clause-host g c =
-    let text : c.as_str.result.now ≡ line (codes "BADWORDS " ++ decimal c.in-Err.field-0.place) = grind (arith, common_steps) in
+    let text : c.as_str.result.now ≡ line (codes "BADWORDS " ++ decimal c.in-Err.field-0.place) =
+    grind (arith, common_steps) in
     record {
       told = goes_reply _ _ (command_in c.args.words.now) (Err c.in-Err.field-0)
           (record { text = c.as_str.result.now; status = ended.BadWords }) c.say-in-Ok.result (sym c.in-Err.ensures)

@@ -9,8 +9,11 @@ use Rattle.gds_cli.proofs.call.integ.Goals as goal
 
 pub returns-in-Ok-clause-host : goal.returns-in-Ok-clause-host
 returns-in-Ok-clause-host g c =
-    let text : c.as_str.result.now ≡ line (name_of c.in-Ok-Some.kind ++ codes " file") ++ line (codes "FAULTS 1") = grind (arith, common_steps) in
-    let due = ap (λ (t : List ℕ). record { text = t; status = Unsound }) text ∙ ap header_reply (sym c.in-Ok-Some.field-0-is) in
+    let text : c.as_str.result.now ≡ line (name_of c.in-Ok-Some.kind ++ codes " file") ++ line (codes "FAULTS 1") =
+    grind (arith, common_steps) in
+    let due =
+    ap (λ (t : List ℕ). record { text = t; status = Unsound }) text
+    ∙ ap header_reply (sym c.in-Ok-Some.field-0-is) in
     record {
       told = found _ _ _ _ _ _ c.in-Ok-Some.ensures.kind c.in-Ok-Some.ensures.host.told due c.say.ensures.host.told;
       failures = NeverFell-trans _ _ _ c.in-Ok-Some.ensures.host.failures c.say.ensures.host.failures;

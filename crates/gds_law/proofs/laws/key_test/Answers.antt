@@ -1,4 +1,4 @@
-use Rattle.gds_law.proofs.KeyLaws.{key_test}
+use Rattle.gds_law.proofs.KeyLemmas.{key_test}
 use Rattle.gds_law.proofs.laws.key_test.Goals as goal
 
 pub returns : goal.returns

@@ -1,4 +1,4 @@
-use Rattle.gds_law.proofs.NumberLaws.{text_test}
+use Rattle.gds_law.proofs.NumberLemmas.{text_test}
 use Rattle.gds_law.proofs.laws.text_test.Goals as goal
 
 pub returns : goal.returns

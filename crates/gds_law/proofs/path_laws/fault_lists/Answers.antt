@@ -1,4 +1,4 @@
-use Rattle.gds_law.proofs.PathLaws.{one_fault_list}
+use Rattle.gds_law.proofs.KeptLemmas.{one_fault_list}
 use Rattle.gds_law.proofs.path_laws.fault_lists.Goals as goal
 
 pub returns : goal.returns

@@ -1,4 +1,4 @@
-use Rattle.gds_law.proofs.PathLaws.{one_reading}
+use Rattle.gds_law.proofs.KeptLemmas.{one_reading}
 use Rattle.gds_law.proofs.path_laws.kept_paths.Goals as goal
 
 pub returns : goal.returns

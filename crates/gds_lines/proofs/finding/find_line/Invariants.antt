@@ -9,7 +9,8 @@ use Rattle.gds_lines.proofs.finding.find_line.Given as goal
 -- What is left looks to a reader as at the call. The first `scanned` bytes that are held have no line end.
 abbrev pub invariant-loop-end : goal.invariant-loop-end
 invariant-loop-end g l = record {
-  seen : TellsOn (text_left l.fn.ahead (g.I.Source.left l.fn.source)) (text_left l.ahead (g.I.Source.left l.source)) LooksAs;
+  seen : TellsOn (text_left l.fn.ahead (g.I.Source.left l.fn.source))
+      (text_left l.ahead (g.I.Source.left l.source)) LooksAs;
   counts : TellsOn (g.I.Source.left l.fn.source) (g.I.Source.left l.source) (Counts l.fn.taken l.taken);
   scanned : l.scanned ≤ line_len (held l.ahead);
   behind : length (held l.ahead) ≤ l.taken;

@@ -10,8 +10,10 @@ slice_bounds-memchr-start c = omega (arith, line_len-le c.args.bytes.now)
 
 pub returns-in_err-found : goal.returns-in_err-found
 returns-in_err-found c =
-    rw c.from_residual.ensures (line_len-searched_from c.args.scanned c.args.bytes.now None c.requires (rw c.in_err-found.was at c.memchr.ensures))
+    rw c.from_residual.ensures (line_len-searched_from c.args.scanned c.args.bytes.now None c.requires
+    (rw c.in_err-found.was at c.memchr.ensures))
 
 pub returns : goal.returns
 returns c =
-    line_len-searched_from c.args.scanned c.args.bytes.now (Some c.in_ok-found.found) c.requires (rw c.in_ok-found.was at c.memchr.ensures)
+    line_len-searched_from c.args.scanned c.args.bytes.now (Some c.in_ok-found.found) c.requires
+    (rw c.in_ok-found.was at c.memchr.ensures)

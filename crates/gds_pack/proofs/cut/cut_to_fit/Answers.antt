@@ -3,7 +3,7 @@ use Rattle.std.proofs.lemmas.List.{take_rest}
 use Rattle.gds_pack.specs.Cut.{AreFullRuns, runs}
 use Rattle.gds_pack.specs.Entry.{items}
 use Rattle.gds_pack.specs.declared.entry.Entry.{Entry}
-use Rattle.gds_pack.proofs.CutLaws.{Fitting, AreFullRuns-last, AreFullRuns-more}
+use Rattle.gds_pack.proofs.CutLemmas.{Fitting, AreFullRuns-last, AreFullRuns-more}
 use Rattle.gds_pack.proofs.cut.cut_to_fit.Goals as goal
 use Rattle.gds_pack.proofs.cut.cut_to_fit.Goals.{After-fitting}
 

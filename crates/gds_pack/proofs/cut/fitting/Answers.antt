@@ -1,7 +1,7 @@
 use Rattle.std.proofs.Common.{◌∙◌, sym, ap, arith}
 use Rattle.gds_pack.specs.Packed.{record_size}
 use Rattle.gds_pack.specs.Entry.{item}
-use Rattle.gds_pack.proofs.ListLaws.{records_size-take, key_behind-take}
+use Rattle.gds_pack.proofs.ListLemmas.{records_size-take, key_behind-take}
 use Rattle.gds_pack.proofs.cut.fitting.Goals as goal
 
 pub returns-then-size-from-clause-most : goal.returns-then-size-from-clause-most

@@ -1,4 +1,4 @@
-use Rattle.gds_pack.proofs.SizeLaws.{packed_size-front, packed_size-back}
+use Rattle.gds_pack.proofs.SizeLemmas.{packed_size-front, packed_size-back}
 use Rattle.gds_pack.proofs.laws.part_size.Goals as goal
 
 pub returns-clause-front : goal.returns-clause-front

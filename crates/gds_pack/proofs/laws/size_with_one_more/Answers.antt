@@ -1,4 +1,4 @@
-use Rattle.gds_pack.proofs.BoundLaws.{packed_size-added, packed_size-added_rising}
+use Rattle.gds_pack.proofs.BoundLemmas.{packed_size-added, packed_size-added_rising}
 use Rattle.gds_pack.proofs.laws.size_with_one_more.Goals as goal
 
 pub returns-clause-any : goal.returns-clause-any

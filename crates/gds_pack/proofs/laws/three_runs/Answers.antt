@@ -1,4 +1,4 @@
-use Rattle.gds_pack.proofs.BoundLaws.{CanBeCut-three}
+use Rattle.gds_pack.proofs.BoundLemmas.{CanBeCut-three}
 use Rattle.gds_pack.proofs.laws.three_runs.Goals as goal
 
 pub returns : goal.returns

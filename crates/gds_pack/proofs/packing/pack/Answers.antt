@@ -5,8 +5,8 @@ use Rattle.gds_block.specs.Block.{IsBlock, used_of}
 use Rattle.gds_block.specs.Record.{records_of}
 use Rattle.gds_pack.specs.Entry.{items}
 use Rattle.gds_pack.specs.Unpacked.{entries_of}
-use Rattle.gds_pack.proofs.PackLaws.{written_block}
-use Rattle.gds_pack.proofs.ReadLaws.{used_of-block_bytes, IsBlock-block_bytes, records_of-block_bytes, entries_of-block_bytes}
+use Rattle.gds_pack.proofs.PackLemmas.{written_block}
+use Rattle.gds_pack.proofs.ReadLemmas.{used_of-block_bytes, IsBlock-block_bytes, records_of-block_bytes, entries_of-block_bytes}
 use Rattle.gds_pack.proofs.packing.pack.Goals as goal
 
 pub returns-clause-written : goal.returns-clause-written

@@ -2,7 +2,7 @@ use Rattle.std.proofs.Common.{◌-◌, ◌∙◌, length, take, drop, ap, arith}
 use Rattle.std.proofs.lemmas.Slice.{between_to_end}
 use Rattle.m_key.specs.KeyEnd.{shared}
 use Rattle.gds_pack.specs.Entry.{item}
-use Rattle.gds_pack.proofs.PackLaws.{record_put}
+use Rattle.gds_pack.proofs.PackLemmas.{record_put}
 use Rattle.gds_pack.proofs.packing.write_record.Goals as goal
 
 pub returns-clause-written : goal.returns-clause-written

@@ -1,7 +1,7 @@
 use Rattle.std.proofs.Common.{◌≡◌, ◌-◌, ◌∙◌, length, Some, [], sym, arith}
 use Rattle.std.specs.Prelude.{slice_get}
 use Rattle.std.proofs.lemmas.Option.{slice_get_within}
-use Rattle.gds_pack.proofs.ListLaws.{key_behind-last}
+use Rattle.gds_pack.proofs.ListLemmas.{key_behind-last}
 use Rattle.gds_pack.proofs.unpacking.last_key.Goals as goal
 
 pub returns-in-Some : goal.returns-in-Some

@@ -9,4 +9,5 @@ pub loop-entry-preserved : goal.loop-entry-preserved
 loop-entry-preserved c =
     let lt : c.loop-entry.entry-index < length c.args.entries.now = omega arith in
     c.in_ok-step.ensures ∙ ap (λ (s : State). apply (step_of c.entry-item.result) s) c.loop-entry.invariant
-    ∙ sym (replayed_more (state_seen c.args.disks.now) c.args.entries.now c.loop-entry.entry-index c.entry-item.result lt c.entry-item.is)
+    ∙ sym (replayed_more (state_seen c.args.disks.now) c.args.entries.now c.loop-entry.entry-index
+    c.entry-item.result lt c.entry-item.is)

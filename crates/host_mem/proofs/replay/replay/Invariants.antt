@@ -5,4 +5,5 @@ use Rattle.host_mem.specs.Replay.{state_seen}
 use Rattle.host_mem.proofs.replay.replay.Given as goal
 
 abbrev pub invariant-loop-entry : goal.invariant-loop-entry
-invariant-loop-entry l = state_seen l.disks ≡ replayed (state_seen l.initial.disks) (map step_of (take l.entry-index l.entries))
+invariant-loop-entry l =
+    state_seen l.disks ≡ replayed (state_seen l.initial.disks) (map step_of (take l.entry-index l.entries))

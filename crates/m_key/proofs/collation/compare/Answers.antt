@@ -8,11 +8,16 @@ use Rattle.m_key.proofs.collation.compare.Goals as goal
 
 pub returns-then-is_ne : goal.returns-then-is_ne
 unfolding reference_cmp
-returns-then-is_ne c = then_decided _ _ _ (c.cmp-names.ensures ∙ ap₂ (slice_cmp nat_cmp) c.bytes.ensures c.bytes-2.ensures) (sym c.is_ne.ensures ∙ c.if-is_ne.true)
+returns-then-is_ne c =
+    then_decided _ _ _ (c.cmp-names.ensures
+    ∙ ap₂ (slice_cmp nat_cmp) c.bytes.ensures c.bytes-2.ensures) (sym c.is_ne.ensures ∙ c.if-is_ne.true)
 
 pub returns : goal.returns
 unfolding reference_cmp
 returns c =
-    then_next _ _ _ _ (c.cmp-names.ensures ∙ ap₂ (slice_cmp nat_cmp) c.bytes.ensures c.bytes-2.ensures) (sym c.is_ne.ensures ∙ c.if-is_ne.false)
-    (c.compare_all.ensures ∙ ap₂ (slice_cmp (on node_subscript_of subscript_cmp)) c.as_slice.ensures.items c.as_slice-2.ensures.items
-    ∙ sym (slice_cmp-map node_subscript_of subscript_cmp (subscript_list c.args.a.now.subscripts) (subscript_list c.args.b.now.subscripts)))
+    then_next _ _ _ _ (c.cmp-names.ensures
+    ∙ ap₂ (slice_cmp nat_cmp) c.bytes.ensures c.bytes-2.ensures) (sym c.is_ne.ensures ∙ c.if-is_ne.false)
+    (c.compare_all.ensures
+    ∙ ap₂ (slice_cmp (on node_subscript_of subscript_cmp)) c.as_slice.ensures.items c.as_slice-2.ensures.items
+    ∙ sym (slice_cmp-map node_subscript_of subscript_cmp (subscript_list c.args.a.now.subscripts)
+    (subscript_list c.args.b.now.subscripts)))

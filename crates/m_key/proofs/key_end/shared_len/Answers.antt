@@ -10,5 +10,9 @@ returns-then-i-b c =
     let i = c.loop-i.i in
     elim c.then-i-b.branch [
       | then-i-b-via-then-i-b w ↦ omega (arith, shared-past a b i (omega arith), c.loop-i.invariant.1)
-      | then-i-b-via-else-i-b+then-x-b w ↦ omega (arith, shared-apart a b i (omega arith) (omega arith) w.if-x-b.true, c.loop-i.invariant.1)
+      | then-i-b-via-else-i-b+then-x-b w ↦ omega (
+        arith,
+        shared-apart a b i (omega arith) (omega arith) w.if-x-b.true,
+        c.loop-i.invariant.1,
+      )
     ]

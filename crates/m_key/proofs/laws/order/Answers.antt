@@ -1,5 +1,5 @@
 use Rattle.m_key.proofs.KeyLemmas as keys
-use Rattle.m_key.proofs.Numbers.{numbers}
+use Rattle.m_key.proofs.NumberLemmas.{numbers}
 use Rattle.m_key.proofs.laws.order.Goals as goal
 
 pub returns : goal.returns

@@ -1,9 +1,9 @@
 use Rattle.std.proofs.Common.{ℕ, List, ◌∷◌, length, sym, ap, ◌∙◌, arith}
 use Rattle.std.proofs.lemmas.Int.{ints}
 use Rattle.std.proofs.lemmas.List.{nil_from_length}
-use Rattle.m_number.proofs.Comparing.{same_numeral, byte_count}
-use Rattle.m_number.proofs.Made.{made}
-use Rattle.m_number.proofs.Packing.{zero_shape, plus_shape, minus_shape, alone}
+use Rattle.m_number.proofs.BytesLemmas.{same_numeral, byte_count}
+use Rattle.m_number.proofs.NumberLemmas.{made}
+use Rattle.m_number.proofs.PackedLemmas.{zero_shape, plus_shape, minus_shape, alone}
 use Rattle.m_number.proofs.bytes.candidate.Goals as goal
 
 pub returns-in_err-first : goal.returns-in_err-first
@@ -24,14 +24,16 @@ returns-then-first c n h bytes =
 
 pub returns-then-first-gt128 : goal.returns-then-first-gt128
 returns-then-first-gt128 c n h bytes =
-    let s = plus_shape n h c.in_ok-first.first.now c.in_ok-first.rest.now c.if-first-gt128.true (bytes ∙ c.in_ok-first.ensures.cases.0) in
+    let s = plus_shape n h c.in_ok-first.first.now c.in_ok-first.rest.now c.if-first-gt128.true (bytes
+    ∙ c.in_ok-first.ensures.cases.0) in
     c.nonzero.ensures n h s.sign s.some s.head s.rest
 
 pub returns-in_err-packed : goal.returns-in_err-packed
 returns-in_err-packed c n h bytes =
     let first = c.in_ok-first.first.now in
     let none = nil_from_length c.in_ok-first.rest.now c.in_err-packed.ensures.cases in
-    absurd (alone n h first (omega arith) (bytes ∙ c.in_ok-first.ensures.cases.0 ∙ ap (λ (xs : List ℕ). first ∷ xs) none))
+    absurd (alone n h first (omega arith) (bytes ∙ c.in_ok-first.ensures.cases.0
+    ∙ ap (λ (xs : List ℕ). first ∷ xs) none))
 
 pub returns : goal.returns
 returns c n h bytes =

@@ -1,4 +1,4 @@
-use Rattle.m_number.proofs.Comparing.{each_byte, byte_count, first_bound}
+use Rattle.m_number.proofs.BytesLemmas.{each_byte, byte_count, first_bound}
 use Rattle.m_number.proofs.laws.byte_bounds.Goals as goal
 
 pub returns-clause-count : goal.returns-clause-count

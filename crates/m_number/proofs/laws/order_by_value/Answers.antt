@@ -1,4 +1,4 @@
-use Rattle.m_number.proofs.Valuing.{values_in_order}
+use Rattle.m_number.proofs.ValueLemmas.{values_in_order}
 use Rattle.m_number.proofs.laws.order_by_value.Goals as goal
 
 pub returns : goal.returns

@@ -1,4 +1,4 @@
-use Rattle.m_number.proofs.Reading.{text_length}
+use Rattle.m_number.proofs.TextLemmas.{text_length}
 use Rattle.m_number.proofs.laws.text_bound.Goals as goal
 
 pub returns : goal.returns

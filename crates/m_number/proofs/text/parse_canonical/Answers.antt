@@ -1,5 +1,5 @@
 use Rattle.std.proofs.Common.{length, ap, arith}
-use Rattle.m_number.proofs.Reading.{text_length}
+use Rattle.m_number.proofs.TextLemmas.{text_length}
 use Rattle.m_number.proofs.text.parse_canonical.Goals as goal
 
 pub returns-then-text-gt-LONGEST-clause-none : goal.returns-then-text-gt-LONGEST-clause-none

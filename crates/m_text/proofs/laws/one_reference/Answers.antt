@@ -1,4 +1,4 @@
-use Rattle.m_text.proofs.OneReference.{one_reference_lem}
+use Rattle.m_text.proofs.OneReferenceLemmas.{one_reference_lem}
 use Rattle.m_text.proofs.laws.one_reference.Goals as goal
 
 pub returns : goal.returns

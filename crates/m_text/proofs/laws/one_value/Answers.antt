@@ -1,4 +1,4 @@
-use Rattle.m_text.proofs.Values.{one_value_lem}
+use Rattle.m_text.proofs.ValueLemmas.{one_value_lem}
 use Rattle.m_text.proofs.laws.one_value.Goals as goal
 
 pub returns : goal.returns

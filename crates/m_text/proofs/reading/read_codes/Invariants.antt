@@ -3,7 +3,8 @@ use Rattle.m_text.specs.Reading.{with_front, list_at, code_at}
 use Rattle.m_text.proofs.reading.read_codes.Given as goal
 
 abbrev pub invariant-loop-code : goal.invariant-loop-code
-invariant-loop-code l = with_front l.out.items (list_at code_at 44 l.rest) ≡ with_front l.fn.out.items (list_at code_at 44 l.text)
+invariant-loop-code l =
+    with_front l.out.items (list_at code_at 44 l.rest) ≡ with_front l.fn.out.items (list_at code_at 44 l.text)
 
 abbrev pub decreases-loop-code : goal.decreases-loop-code
 decreases-loop-code l = length l.rest

@@ -8,6 +8,7 @@ returns-in_err-name-clause-none c =
     let text : List ℕ = c.args.text.now in
     let P : ℕ → Type 0 = λ n. IsName (take n text) in
     rw c.from_residual.ensures (λ name rest is e.
-    let taken : IsName (take c.longest_name-len.result text) = subst P (sym c.longest_name-len.ensures.value) (name_taken name text rest is e) in
+    let taken : IsName (take c.longest_name-len.result text) =
+    subst P (sym c.longest_name-len.ensures.value) (name_taken name text rest is e) in
     let wrong = c.in_err-name.ensures.variant.1 taken in
     cc)

@@ -17,7 +17,8 @@ returns-then-not-is_node_of c =
       λ nodes.
           let within : i < length (map valued xs) = rw length-map c.loop-node-test.true in
           let here = all_at (IsNodeOf h name) (map valued xs) i (valued item) nodes.each within in
-          let is : get_or (map valued xs) i (valued item) ≡ valued item = get_or-map valued xs i item (valued item) c.loop-node-test.true ∙ ap valued (sym c.node-item.is) in
+          let is : get_or (map valued xs) i (valued item) ≡ valued item =
+          get_or-map valued xs i item (valued item) c.loop-node-test.true ∙ ap valued (sym c.node-item.is) in
           let yes = c.is_node_of.ensures.1 (subst (IsNodeOf h name) is here) in
           let no = c.if-not-is_node_of.true in cc,
     )

@@ -8,6 +8,9 @@ pub returns-clause-none : goal.returns-clause-none
 returns-clause-none c =
     let h = c.args.header.now in
     let block = c.args.block.now in
-    none_weaker c.read_nodes.result ((vs : List Valued) → IsListed h block vs → ⊥) ((vs : List Valued) → IsLeaf h block vs → ⊥)
+    none_weaker c.read_nodes.result ((vs : List Valued) → IsListed h block vs → ⊥)
+    ((vs : List Valued) → IsLeaf h block vs → ⊥)
     (λ none vs leaf. none vs (record { whole = leaf.whole; records = leaf.records }))
-    (subst (λ (b : List ℕ). IfOk c.read_nodes.result (λ o. IfNone o ((vs : List Valued) → IsListed h b vs → ⊥))) c.in-Some.ensures.1 c.read_nodes.ensures.none)
+    (subst
+    (λ (b : List ℕ). IfOk c.read_nodes.result (λ o. IfNone o ((vs : List Valued) → IsListed h b vs → ⊥)))
+    c.in-Some.ensures.1 c.read_nodes.ensures.none)

@@ -37,5 +37,6 @@ returns-else-is_next-clause-none c n value p s =
     (c.in_ok-end.ensures.value ∙ ap (λ z. end_in z c.args.view.body.now) c.ends_in_zero.ensures) in
     let key = c.join_key-key.ensures in
     let front = c.split_at.ensures.front in
-    not_next c.is_next.result c.args.view.count c.args.previous.now c.as_slice.result.now (key_bytes n) c.is_next.ensures c.if-is_next.false
+    not_next c.is_next.result c.args.view.count c.args.previous.now c.as_slice.result.now
+    (key_bytes n) c.is_next.ensures c.if-is_next.false
     (c.as_slice.ensures.value ∙ sym (k.bytes ∙ (cc))) s.exact s.above

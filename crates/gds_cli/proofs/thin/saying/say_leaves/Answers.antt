@@ -11,7 +11,9 @@ pub returns-in_err-say_leaf-clause-said : goal.returns-in_err-say_leaf-clause-sa
 returns-in_err-say_leaf-clause-said g c x tells globals head all =
     let i = c.loop-leaf.leaf-index in
     let vs = get_or globals i [] in
-    let within : i < length globals = omega (arith, zip_length (IsLeafAt c.args.header.now x.db) c.args.leaves.now globals all, c.loop-leaf-test.true) in
+    let within : i < length globals =
+    omega
+    (arith, zip_length (IsLeafAt c.args.header.now x.db) c.args.leaves.now globals all, c.loop-leaf-test.true) in
     let p = err_from_is_err_and c.from_residual.result c.from_residual.ensures.1 in
     on_break x (flat_map (flat_map zwr_node) globals) _ p.0 _ p.1
     (front_line (flat_map zwr_node) x _ globals i vs (flat_map zwr_node vs) within (get_or_same globals i within) refl
@@ -32,7 +34,9 @@ loop-leaf-preserved g c = record {
   said = λ x tells globals head all.
       let i = c.loop-leaf.leaf-index in
       let vs = get_or globals i [] in
-      let within : i < length globals = omega (arith, zip_length (IsLeafAt c.args.header.now x.db) c.args.leaves.now globals all, c.loop-leaf-test.true) in
+      let within : i < length globals =
+      omega
+      (arith, zip_length (IsLeafAt c.args.header.now x.db) c.args.leaves.now globals all, c.loop-leaf-test.true) in
       said_line (flat_map zwr_node) x _ globals i vs (flat_map zwr_node vs) within (get_or_same globals i within) refl
       (c.in_ok-say_leaf.ensures.said _ (c.loop-leaf.invariant.said x tells globals head all) vs head
       (zip_at (IsLeafAt c.args.header.now x.db) c.args.leaves.now globals i 0 [] all c.loop-leaf-test.true));
@@ -42,5 +46,8 @@ loop-leaf-preserved g c = record {
 pub returns-clause-said : goal.returns-clause-said
 returns-clause-said g c x tells globals head all =
     let i = c.loop-leaf.leaf-index in
-    let done : length globals ≤ i = omega (arith, zip_length (IsLeafAt c.args.header.now x.db) c.args.leaves.now globals all, c.loop-leaf-test.false) in
-    c.loop-leaf.invariant.said x tells globals head all ∙ ap (λ xs. Some (saying x (flat_map (flat_map zwr_node) xs))) (take_all i globals done)
+    let done : length globals ≤ i =
+    omega
+    (arith, zip_length (IsLeafAt c.args.header.now x.db) c.args.leaves.now globals all, c.loop-leaf-test.false) in
+    c.loop-leaf.invariant.said x tells globals head all
+    ∙ ap (λ xs. Some (saying x (flat_map (flat_map zwr_node) xs))) (take_all i globals done)

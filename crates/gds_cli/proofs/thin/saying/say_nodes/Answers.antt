@@ -14,7 +14,8 @@ returns-in_err-write_node-clause-said g c x tells =
     let i = c.loop-node.node-index in
     let p = err_from_is_err_and c.from_residual.result c.from_residual.ensures.1 in
     on_break x (flat_map zwr_node vs) _ p.0 _ p.1
-    (front_whole x _ (flat_map zwr_node (take i vs)) (flat_map zwr_node (drop i vs)) _ (c.loop-node.invariant.said x tells) (texts_split zwr_node vs i))
+    (front_whole x _ (flat_map zwr_node (take i vs)) (flat_map zwr_node (drop i vs)) _
+    (c.loop-node.invariant.said x tells) (texts_split zwr_node vs i))
 
 pub returns-in_err-say_line-clause-said : goal.returns-in_err-say_line-clause-said
 returns-in_err-say_line-clause-said g c x tells =
@@ -22,10 +23,14 @@ returns-in_err-say_line-clause-said g c x tells =
     let i = c.loop-node.node-index in
     let item = c.node-item.result in
     let within : i < length vs = rw length-map c.loop-node-test.true in
-    let is : valued item ≡ get_or vs i (valued item) = sym (get_or-map valued c.args.nodes.now i item (valued item) c.loop-node-test.true ∙ ap valued (sym c.node-item.is)) in
+    let is : valued item ≡ get_or vs i (valued item) =
+    sym
+    (get_or-map valued c.args.nodes.now i item (valued item) c.loop-node-test.true ∙ ap valued (sym c.node-item.is))
+    in
     let p = err_from_is_err_and c.from_residual-in_err-say_line.result c.from_residual-in_err-say_line.ensures.1 in
     on_break x (flat_map zwr_node vs) _ p.0 _ p.1
-    (front_line zwr_node x _ vs i (valued item) c.deref.result.now within is (c.deref.ensures.value ∙ c.in_ok-write_node.ensures)
+    (front_line zwr_node x _ vs i (valued item) c.deref.result.now within is
+    (c.deref.ensures.value ∙ c.in_ok-write_node.ensures)
     (c.in_err-say_line.ensures.said _ (c.loop-node.invariant.said x tells)))
 
 pub loop-node-preserved : goal.loop-node-preserved
@@ -35,8 +40,12 @@ loop-node-preserved g c = record {
       let i = c.loop-node.node-index in
       let item = c.node-item.result in
       let within : i < length vs = rw length-map c.loop-node-test.true in
-      let is : valued item ≡ get_or vs i (valued item) = sym (get_or-map valued c.args.nodes.now i item (valued item) c.loop-node-test.true ∙ ap valued (sym c.node-item.is)) in
-      said_line zwr_node x _ vs i (valued item) c.deref.result.now within is (c.deref.ensures.value ∙ c.in_ok-write_node.ensures)
+      let is : valued item ≡ get_or vs i (valued item) =
+      sym
+      (get_or-map valued c.args.nodes.now i item (valued item) c.loop-node-test.true
+      ∙ ap valued (sym c.node-item.is)) in
+      said_line zwr_node x _ vs i (valued item) c.deref.result.now within is
+      (c.deref.ensures.value ∙ c.in_ok-write_node.ensures)
       (c.in_ok-say_line.ensures.said _ (c.loop-node.invariant.said x tells));
   failures = NeverFell-trans _ _ _ c.loop-node.invariant.failures c.in_ok-say_line.ensures.blamed.failures;
 }

@@ -9,6 +9,7 @@ use Rattle.gds_cli.proofs.thin.saying.say_nodes.Given as goal
 -- the lines so far were said
 abbrev pub invariant-loop-node : goal.invariant-loop-node
 invariant-loop-node g l = record {
-  said : ForSome (g.H.Host.told l.fn.host) (λ c. g.H.Host.told l.host ≡ Some (saying c (flat_map zwr_node (take l.node-index (map valued l.nodes)))));
+  said : ForSome (g.H.Host.told l.fn.host)
+      (λ c. g.H.Host.told l.host ≡ Some (saying c (flat_map zwr_node (take l.node-index (map valued l.nodes)))));
   failures : NeverFell (g.H.Host.failures l.fn.host) (g.H.Host.failures l.host);
 }

@@ -11,15 +11,18 @@ use Rattle.gds_lines.proofs.ahead.Ahead.give.Goals as goal
 pub returns-clause-rest : goal.returns-clause-rest
 returns-clause-rest c =
     let s = c.args.self.now in
-    let long : length (held s) ≡ s.to - s.from = length-between s.buffer.items s.from s.to (omega (arith, s.within, s.buffer.ok.0)) in
-    slice_range-rest s.buffer.items s.from s.to (c.args.end + 1) (omega arith) ∙ ap (λ n. drop (n + 1) (held s)) c.requires.first
+    let long : length (held s) ≡ s.to - s.from =
+    length-between s.buffer.items s.from s.to (omega (arith, s.within, s.buffer.ok.0)) in
+    slice_range-rest s.buffer.items s.from s.to (c.args.end + 1) (omega arith)
+    ∙ ap (λ n. drop (n + 1) (held s)) c.requires.first
 
 pub returns-clause-line : goal.returns-clause-line
 returns-clause-line c =
     let s = c.args.self.now in
     let end = c.args.end in
     let len = c.given_len-len.result in
-    let long : length (held s) ≡ s.to - s.from = length-between s.buffer.items s.from s.to (omega (arith, s.within, s.buffer.ok.0)) in
+    let long : length (held s) ≡ s.to - s.from =
+    length-between s.buffer.items s.from s.to (omega (arith, s.within, s.buffer.ok.0)) in
     let short : len ≤ end = omega (arith, length-take end c.held.result.now, c.given_len-len.ensures.within) in
     ap Some
     (slice_range-front s.buffer.items s.from s.to len (omega arith)

@@ -13,5 +13,6 @@ returns-then-self-gt-HELD_LIMIT-clause-cut c =
 pub returns-else-self-gt-HELD_LIMIT-clause-cut : goal.returns-else-self-gt-HELD_LIMIT-clause-cut
 returns-else-self-gt-HELD_LIMIT-clause-cut c =
     let s = c.args.self.now in
-    let short : length (held s) ≤ 1048578 = omega (arith, length-between s.buffer.items s.from s.to (omega (arith, s.within, s.buffer.ok.0))) in
+    let short : length (held s) ≤ 1048578 =
+    omega (arith, length-between s.buffer.items s.from s.to (omega (arith, s.within, s.buffer.ok.0))) in
     sym (take_all 1048578 (held s) short)

@@ -14,5 +14,7 @@ invariant_of-self c = record {
 pub returns-clause-time : goal.returns-clause-time
 returns-clause-time c =
     let n : Memory = seen c.read.new.self in
-    let P : Memory → Type 0 = λ m. Elapses m.log.moment n.log.moment (left_since m) (left_since n) (left_since n n.log.moment) in
-    subst P c.self.view_is (time_idle _ _ (is_idle _ _ c.read.result _ _ c.read.ensures.called) c.self.invariant.numbered)
+    let P : Memory → Type 0 =
+    λ m. Elapses m.log.moment n.log.moment (left_since m) (left_since n) (left_since n n.log.moment) in
+    subst P c.self.view_is (time_idle _ _ (is_idle _ _ c.read.result _ _ c.read.ensures.called)
+    c.self.invariant.numbered)

@@ -8,7 +8,7 @@ use Rattle.gds_law.specs.declared.sink.SinkTrouble.TheVariants.{Failed}
 use Rattle.gds_law.proofs.SinkLemmas.{Reached, Reached-more, WasTold-refused}
 use Rattle.integ_block.specs.BlockReading.{reading, faults_at}
 use Rattle.integ_block.specs.Entry.{seen}
-use Rattle.integ_block.proofs.KindLaws.{found-yes, found-not}
+use Rattle.integ_block.proofs.KindLemmas.{found-yes, found-not}
 use Rattle.integ_block.proofs.entry.Entry.tell.Goals as goal
 use Rattle.integ_block.proofs.entry.Entry.tell.Goals.{then-holds+in_ok-tell, else-holds}
 
@@ -23,13 +23,17 @@ loop-kind-preserved g c =
     let i = c.loop-kind.kind-index in
     let told = g.F.FaultSink.listed in
     let whole = faults_at b path offset (filter test kinds) in
-    let so : (ks : List FaultKind) → filter test (drop i kinds) ≡ ks → Reached (told c.args.sink.now) (told c.loop-kind.sink) (faults_at b path offset ks) whole c.loop-kind.count =
-    λ (ks : List FaultKind) (e : filter test (drop i kinds) ≡ ks). subst (λ (ks : List FaultKind). Reached (told c.args.sink.now) (told c.loop-kind.sink) (faults_at b path offset ks) whole c.loop-kind.count) e c.loop-kind.invariant.told in
+    let so : (ks : List FaultKind) → filter test (drop i kinds) ≡ ks
+    → Reached (told c.args.sink.now) (told c.loop-kind.sink) (faults_at b path offset ks) whole c.loop-kind.count =
+    λ (ks : List FaultKind) (e : filter test (drop i kinds)
+    ≡ ks). subst (λ (ks : List FaultKind). Reached (told c.args.sink.now) (told c.loop-kind.sink)
+    (faults_at b path offset ks) whole c.loop-kind.count) e c.loop-kind.invariant.told in
     elim c.if-holds.branch [
       | then-holds+in_ok-tell w ↦
           let e = found-yes test kinds i ShortHeader c.loop-kind-test.true (sym c.holds.ensures ∙ w.if-holds.true) in
           record {
-            told = Reached-more _ (told c.loop-kind.sink) _ (faults_at b path offset (get_or kinds i ShortHeader ∷ [])) _ whole c.loop-kind.count _ (so _ e) (ap told w.sink-is ∙ w.in_ok-tell.ensures.faults.all) w.count-is;
+            told = Reached-more _ (told c.loop-kind.sink) _ (faults_at b path offset (get_or kinds i ShortHeader ∷ []))
+                _ whole c.loop-kind.count _ (so _ e) (ap told w.sink-is ∙ w.in_ok-tell.ensures.faults.all) w.count-is;
             few = omega arith;
             failures = omega (arith, w.in_ok-tell.ensures.failures, ap g.F.FaultSink.failures w.sink-is);
           }
@@ -56,6 +60,9 @@ returns-in_err-tell-clause-told g c =
     let first = found-yes test kinds i ShortHeader c.loop-kind-test.true (sym c.holds.ensures ∙ c.if-holds.true) in
     let p = err_from_is_err_and c.from_residual.result c.from_residual.ensures.1 in
     WasTold-refused told g.F.FaultSink.failures c.args.sink.now c.loop-kind.sink c.tell.new.sink
-    (faults_at b path offset (get_or kinds i ShortHeader ∷ [])) (faults_at b path offset (filter test (drop (i + 1) kinds))) whole c.loop-kind.count Failed _ c.from_residual.result Failed p.0
-    (subst (λ (ks : List FaultKind). Reached (told c.args.sink.now) (told c.loop-kind.sink) (faults_at b path offset ks) whole c.loop-kind.count) first c.loop-kind.invariant.told)
+    (faults_at b path offset (get_or kinds i ShortHeader ∷ []))
+    (faults_at b path offset (filter test (drop (i + 1) kinds))) whole c.loop-kind.count Failed _
+    c.from_residual.result Failed p.0
+    (subst (λ (ks : List FaultKind). Reached (told c.args.sink.now) (told c.loop-kind.sink) (faults_at b path offset ks)
+    whole c.loop-kind.count) first c.loop-kind.invariant.told)
     c.loop-kind.invariant.failures c.in_err-tell.ensures p.1 (λ e. sym p.2 ∙ e)

@@ -13,8 +13,15 @@ abbrev pub invariant-loop-view : goal.invariant-loop-view
 invariant-loop-view g l = record {
   can : (goal.iterator-loop-view g).can_next l.view-iterator;
   finite : (goal.iterator-loop-view g).is_finite l.view-iterator;
-  told : Reached (g.F.FaultSink.listed l.fn.sink) (g.F.FaultSink.listed l.sink) (map (fault_at (reading l.self) l.self.at.now.path) (kinds_from (reading l.self) l.bytes l.end l.previous.items l.view-iterator)) (map (fault_at (reading l.self) l.self.at.now.path) (kinds_from (reading l.self) l.bytes 16 [] (records_of l.bytes))) l.count;
-  children : (n : ℕ) × Reached (map child_of l.fn.children.items) (map child_of l.children.items) (children_from (reading l.self) l.previous.items l.view-iterator) (children_from (reading l.self) [] (records_of l.bytes)) n;
+  told : Reached (g.F.FaultSink.listed l.fn.sink) (g.F.FaultSink.listed l.sink)
+      (map (fault_at (reading l.self) l.self.at.now.path)
+      (kinds_from (reading l.self) l.bytes l.end l.previous.items l.view-iterator))
+      (map (fault_at (reading l.self) l.self.at.now.path)
+      (kinds_from (reading l.self) l.bytes 16 [] (records_of l.bytes))) l.count;
+  children : (n : ℕ)
+      × Reached (map child_of l.fn.children.items) (map child_of l.children.items)
+      (children_from (reading l.self) l.previous.items l.view-iterator)
+      (children_from (reading l.self) [] (records_of l.bytes)) n;
   fronts : HasOpenFronts l.previous.items;
   records : AreRecords l.self.level l.end (bytes_left l.bytes l.end) l.view-iterator;
   stand : All (StandsIn l.bytes) l.view-iterator;

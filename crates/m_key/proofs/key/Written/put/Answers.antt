@@ -14,6 +14,7 @@ returns-then-not-is_full c =
 
 pub returns-else-not-is_full : goal.returns-else-not-is_full
 returns-else-not-is_full c = record {
-  front = full c.args.self.now.front.items c.args.byte (true-eqb (length c.args.self.now.front.items) 255 c.if-not-is_full.ensures.value);
+  front = full c.args.self.now.front.items c.args.byte
+      (true-eqb (length c.args.self.now.front.items) 255 c.if-not-is_full.ensures.value);
   len = omega (arith, c.saturating_add-self.ensures);
 }

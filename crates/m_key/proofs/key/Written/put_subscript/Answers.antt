@@ -7,4 +7,5 @@ use Rattle.m_key.proofs.key.Written.put_subscript.Goals as goal
 pub returns-in-Text : goal.returns-in-Text
 returns-in-Text c =
     appends_more _ _ _ _ _ _ c.put.ensures c.put_text.ensures
-    (ap (λ s. subscript_bytes (node_subscript_of s)) c.in-Text.is ∙ ap (λ t. 255 ∷ flat_map escaped t) (sym c.bytes.ensures))
+    (ap (λ s. subscript_bytes (node_subscript_of s)) c.in-Text.is
+    ∙ ap (λ t. 255 ∷ flat_map escaped t) (sym c.bytes.ensures))

@@ -14,12 +14,15 @@ loop-subscript-preserved c =
     let xs = c.args.subscripts.now in
     let i = c.loop-subscript.subscript-index in
     let item = c.subscript-item.result in
-    appends_more _ _ _ _ (f item) _ c.loop-subscript.invariant (appends_more _ _ _ _ _ (f item) c.put_subscript.ensures c.put.ensures refl)
-    (flat_map_take f xs i item c.loop-subscript-test.true ∙ ap (λ s. flat_map f (take i xs) ++ f s) (sym c.subscript-item.is))
+    appends_more _ _ _ _ (f item) _ c.loop-subscript.invariant
+    (appends_more _ _ _ _ _ (f item) c.put_subscript.ensures c.put.ensures refl)
+    (flat_map_take f xs i item c.loop-subscript-test.true
+    ∙ ap (λ s. flat_map f (take i xs) ++ f s) (sym c.subscript-item.is))
 
 pub returns : goal.returns
 returns c =
     let f = λ (s : Subscript). ended (node_subscript_of s) in
     let xs = c.args.subscripts.now in
     appends_same _ _ _ _ c.loop-subscript.invariant
-    (flat_map_map ended node_subscript_of xs ∙ ap (flat_map f) (sym (take_all c.loop-subscript.subscript-index xs c.loop-subscript-test.false)))
+    (flat_map_map ended node_subscript_of xs
+    ∙ ap (flat_map f) (sym (take_all c.loop-subscript.subscript-index xs c.loop-subscript-test.false)))

@@ -6,4 +6,5 @@ use Rattle.m_key.proofs.key.Written.put_subscripts.Given as goal
 
 -- the subscripts so far are written
 abbrev pub invariant-loop-subscript : goal.invariant-loop-subscript
-invariant-loop-subscript l = Appends l.initial.self l.self (flat_map (λ s. ended (node_subscript_of s)) (take l.subscript-index l.subscripts))
+invariant-loop-subscript l =
+    Appends l.initial.self l.self (flat_map (λ s. ended (node_subscript_of s)) (take l.subscript-index l.subscripts))

@@ -6,4 +6,6 @@ pub loop-byte-init : goal.loop-byte-init
 loop-byte-init c = appends_none c.args.self.now
 
 pub loop-byte-preserved : goal.loop-byte-preserved
-loop-byte-preserved c = appends_more _ _ _ _ _ _ c.loop-byte.invariant c.put_escaped.ensures (flat_map_take escaped c.args.text.now c.loop-byte.byte-index 0 c.loop-byte-test.true)
+loop-byte-preserved c =
+    appends_more _ _ _ _ _ _ c.loop-byte.invariant c.put_escaped.ensures
+    (flat_map_take escaped c.args.text.now c.loop-byte.byte-index 0 c.loop-byte-test.true)

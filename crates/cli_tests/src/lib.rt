@@ -1,0 +1,11 @@
+//! The tests of the top call `gds`, over hosts in memory.
+#![tactic(auto)]
+
+#[cfg(test)]
+mod answers;
+#[cfg(test)]
+mod changes;
+#[cfg(test)]
+mod failures;
+#[cfg(test)]
+mod files;

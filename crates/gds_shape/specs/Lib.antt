@@ -1,0 +1,5 @@
+pub mod Shape
+pub mod Cut
+pub mod Move
+pub mod Room
+pub mod Depth

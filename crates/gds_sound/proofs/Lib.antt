@@ -1,0 +1,12 @@
+pub mod BlockLemmas
+pub mod TreeLemmas
+pub mod CountLemmas
+pub mod PathLemmas
+pub mod KeptLemmas
+pub mod MapLemmas
+pub mod SoundLemmas
+pub mod ValueLemmas
+pub mod OrderLemmas
+pub mod KeyLemmas
+pub mod PairLemmas
+pub mod OneMapLemmas

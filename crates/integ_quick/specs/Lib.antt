@@ -1,0 +1,4 @@
+pub mod Subscripts
+pub mod Record
+pub mod Leaf
+pub mod Head

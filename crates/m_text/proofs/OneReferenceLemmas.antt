@@ -1,0 +1,239 @@
+-- A text stands for one reference at most.
+use Rattle.std.proofs.Common.{◌≡◌, ℕ, ◌<◌, ◌≤◌, List, [], ◌∷◌, ◌++◌, length, take, drop, map, refl, sym, ap, ◌∙◌, subst}
+use Rattle.std.proofs.Common.{arith, inl, inr, ◌⊎◌, ⊎_elim, length-append}
+use Rattle.std.specs.List.{AllByRecursion, prefix_len}
+use Rattle.std.proofs.lemmas.List.{append-nil, take_at, drop_at}
+use Rattle.std.proofs.lemmas.List.Elements.{recursion_from_All}
+use Rattle.std.proofs.lemmas.Bool.{cases_lt}
+use Rattle.m_number.specs.Numeral.{Numeral, IsNumeral}
+use Rattle.m_number.specs.Text.{text_of}
+use Rattle.m_key.specs.Node.{Node, NodeSubscript, number, IsName, IsSubscript, spelled}
+use Rattle.m_key.specs.Node.{string as text_node}
+use Rattle.m_text.specs.Grammar.{joined, Expression, bare, string, expression_text, expression_bytes, IsExpression}
+use Rattle.m_text.specs.Grammar.{reference_form, IsReferenceText}
+use Rattle.m_text.specs.Reading.{is_number_byte}
+use Rattle.m_text.specs.Standing.{StandsAt, IsEnded, ListStandsAt}
+use Rattle.m_text.proofs.FoundLemmas.{pair_of}
+use Rattle.m_text.proofs.SubscriptLemmas.{First, first_of_list, bare_len, string_len, string_read_at}
+use Rattle.m_text.proofs.ReferenceLemmas.{tail_of, name_short, name_ended, same_front}
+
+-- what the law on the texts of numbers says
+abbrev pub OneText : Type 0
+OneText = (a b : Numeral) → IsNumeral a → IsNumeral b → text_of a ≡ text_of b → a ≡ b
+
+-- bytes spell one subscript at most
+one_spelled : OneText → (s t : NodeSubscript) → IsSubscript s → IsSubscript t → spelled s ≡ spelled t → s ≡ t
+one_spelled one (number a) (number b) h k e = ap number (one a b h k e)
+one_spelled one (number a) (text_node t) h k e = absurd (k.no_number a h e)
+one_spelled one (text_node s) (number b) h k e = absurd (h.no_number b k (sym e))
+one_spelled one (text_node s) (text_node t) h k e = ap text_node e
+
+-- What stands at the front, up to a ',' or a ')', stands there in one way.
+record Spells (text bytes rest : List ℕ) (n : ℕ) : Type 0 where
+  bytes_are : bytes ≡ take n text
+  rest_is : rest ≡ drop n text
+
+bare_spells : (e : Expression) (text bytes rest : List ℕ) (n : ℕ) → n ≡ prefix_len is_number_byte text → 0 < n
+    → IsExpression e → IsEnded rest → text ≡ expression_text e ++ rest → expression_bytes e ≡ bytes
+    → Spells text bytes rest n
+bare_spells (bare m) text bytes rest n count l right ended w b =
+    let size : length (text_of m) ≡ n = sym (count ∙ ap (prefix_len is_number_byte) w ∙ bare_len m rest right ended) in
+    record {
+      bytes_are = sym b ∙ sym (ap (take n) w ∙ take_at (text_of m) rest n size);
+      rest_is = sym (ap (drop n) w ∙ drop_at (text_of m) rest n size);
+    }
+bare_spells (string pieces) text bytes rest n count l right ended w b =
+    let none : n ≡ 0 = count ∙ ap (prefix_len is_number_byte) w ∙ string_len pieces rest right.0 in
+    absurd (omega (arith, none))
+
+one_stands : (text rest rest' : List ℕ) (s t : NodeSubscript) → IsEnded rest → IsEnded rest' → StandsAt text s rest
+    → StandsAt text t rest' → (spelled s ≡ spelled t) × (rest ≡ rest')
+one_stands text rest rest' s t e f h k =
+    let n : ℕ = prefix_len is_number_byte text in
+    ⊎_elim
+    (λ (l : 0 < n).
+    let a = bare_spells h.expression text (spelled s) rest n refl l h.right e h.written h.meant in
+    let b = bare_spells k.expression text (spelled t) rest' n refl l k.right f k.written k.meant in
+    (a.bytes_are ∙ sym b.bytes_are, a.rest_is ∙ sym b.rest_is))
+    (λ (l : n ≤ 0).
+    let none : n ≡ 0 = omega (arith, l) in
+    pair_of (spelled s) rest (spelled t) rest' (sym (string_read_at text s rest none e h)
+    ∙ string_read_at text t rest' none f k))
+    (cases_lt 0 n)
+
+tail_nodes : (s t : NodeSubscript) (ss ts : List NodeSubscript) → s ∷ ss ≡ t ∷ ts → (s ≡ t) × (ss ≡ ts)
+tail_nodes s t ss ts e = (cc, cc)
+
+same_nodes : (s t : NodeSubscript) (ss ts : List NodeSubscript) → s ≡ t → ss ≡ ts → s ∷ ss ≡ t ∷ ts
+same_nodes s t ss ts p q = cc
+
+abbrev AllNodes : List NodeSubscript → Type 0
+AllNodes ss = AllByRecursion IsSubscript ss
+
+-- what the firsts of two lists at one place have in common
+record Agree (fs gs : NodeSubscript) (f g : List NodeSubscript) (rest rest' : List ℕ) : Type 0 where
+  spelt : spelled fs ≡ spelled gs
+  others : ((f ≡ []) × (g ≡ [])) ⊎ ((m : List ℕ) × ListStandsAt m f rest × ListStandsAt m g rest')
+
+both_end : (text : List ℕ) (s t : NodeSubscript) (f g : List NodeSubscript) (rest rest' : List ℕ)
+    → StandsAt text s (41 ∷ rest) → f ≡ [] → StandsAt text t (41 ∷ rest') → g ≡ [] → Agree s t f g rest rest'
+both_end text s t f g rest rest' x p y q =
+    record { spelt = (one_stands text (41 ∷ rest) (41 ∷ rest') s t refl refl x y).0; others = inl (p, q) }
+
+heads_differ : (xs ys : List ℕ) → 41 ∷ xs ≡ 44 ∷ ys → ⊥
+heads_differ xs ys e = cc
+
+one_ends : (text : List ℕ) (s t : NodeSubscript) (rest m : List ℕ) → StandsAt text s (41 ∷ rest)
+    → StandsAt text t (44 ∷ m) → ⊥
+one_ends text s t rest m x y = heads_differ rest m (one_stands text (41 ∷ rest) (44 ∷ m) s t refl refl x y).1
+
+both_go_on : (text : List ℕ) (s t : NodeSubscript) (f g : List NodeSubscript) (rest rest' m n : List ℕ)
+    → StandsAt text s (44 ∷ m) → ListStandsAt m f rest → StandsAt text t (44 ∷ n) → ListStandsAt n g rest'
+    → Agree s t f g rest rest'
+both_go_on text s t f g rest rest' m n x p y q =
+    let both = one_stands text (44 ∷ m) (44 ∷ n) s t refl refl x y in
+    record {
+      spelt = both.0;
+      others =
+          inr (m, p, subst (λ (u : List ℕ). ListStandsAt u g rest') (tail_of 44 44 n m (sym both.1)) q);
+    }
+
+firsts_agree : (text : List ℕ) (ss ts : List NodeSubscript) (rest rest' : List ℕ) → (f : First text ss rest)
+    → (g : First text ts rest') → Agree f.s g.s f.others g.others rest rest'
+firsts_agree text ss ts rest rest' f g =
+    ⊎_elim
+    (λ (x : StandsAt text f.s (41 ∷ rest) × (f.others ≡ [])).
+    ⊎_elim
+    (λ (y : StandsAt text g.s (41 ∷ rest')
+    × (g.others ≡ [])). both_end text f.s g.s f.others g.others rest rest' x.0 x.1 y.0 y.1)
+    (λ (y : (m : List ℕ) × StandsAt text g.s (44 ∷ m)
+    × ListStandsAt m g.others rest'). absurd (one_ends text f.s g.s rest y.0 x.0 y.1))
+    g.is)
+    (λ (x : (m : List ℕ) × StandsAt text f.s (44 ∷ m) × ListStandsAt m f.others rest).
+    ⊎_elim
+    (λ (y : StandsAt text g.s (41 ∷ rest') × (g.others ≡ [])). absurd (one_ends text g.s f.s rest' x.0 y.0 x.1))
+    (λ (y : (m : List ℕ) × StandsAt text g.s (44 ∷ m)
+    × ListStandsAt m g.others rest'). both_go_on text f.s g.s f.others g.others rest rest' x.0 y.0 x.1 x.2 y.1 y.2)
+    g.is)
+    f.is
+
+others_same : (f g : List NodeSubscript) (rest rest' : List ℕ) → AllNodes g
+    → ((m : List ℕ) (us : List NodeSubscript) → AllNodes us → ListStandsAt m f rest → ListStandsAt m us rest' → f ≡ us)
+    → ((f ≡ []) × (g ≡ [])) ⊎ ((m : List ℕ) × ListStandsAt m f rest × ListStandsAt m g rest') → f ≡ g
+others_same f g rest rest' k again a =
+    ⊎_elim
+    (λ (x : (f ≡ []) × (g ≡ [])). x.0 ∙ sym x.1)
+    (λ (x : (m : List ℕ) × ListStandsAt m f rest × ListStandsAt m g rest'). again x.0 g k x.1 x.2)
+    a
+
+list_again : OneText → (f g : NodeSubscript) (fs gs : List NodeSubscript) (rest rest' : List ℕ) → AllNodes (f ∷ fs)
+    → AllNodes (g ∷ gs)
+    → ((m : List ℕ) (us : List NodeSubscript) → AllNodes us → ListStandsAt m fs rest → ListStandsAt m us rest'
+    → fs ≡ us) → Agree f g fs gs rest rest' → f ∷ fs ≡ g ∷ gs
+list_again one f g fs gs rest rest' h k again a =
+    same_nodes f g fs gs (one_spelled one f g h.0 k.0 a.spelt) (others_same fs gs rest rest' k.1 again a.others)
+
+-- the first and the others of a list, by the list
+agree_at : (s t : NodeSubscript) (ss fs gs : List NodeSubscript) (f : NodeSubscript) (rest rest' : List ℕ)
+    → s ∷ ss ≡ f ∷ fs → Agree f t fs gs rest rest' → Agree s t ss gs rest rest'
+agree_at s t ss fs gs f rest rest' e a =
+    let parts = tail_nodes s f ss fs e in
+    let P : NodeSubscript → Type 0 = λ x. Agree x t ss gs rest rest' in
+    let Q : List NodeSubscript → Type 0 = λ xs. Agree f t xs gs rest rest' in
+    subst P (sym parts.0) (subst Q (sym parts.1) a)
+
+none_first : {A : Type 0} (text rest : List ℕ) → First text [] rest → A
+none_first text rest f = absurd (let wrong : [] ≡ f.s ∷ f.others = f.are in cc)
+
+list_same : OneText → (text : List ℕ) (s : NodeSubscript) (ss ts : List NodeSubscript) (rest rest' : List ℕ)
+    → AllNodes (s ∷ ss) → AllNodes ts
+    → ((m : List ℕ) (us : List NodeSubscript) → AllNodes us → ListStandsAt m ss rest → ListStandsAt m us rest'
+    → ss ≡ us) → First text (s ∷ ss) rest → First text ts rest' → s ∷ ss ≡ ts
+list_same one text s ss ts rest rest' h k again f g =
+    let right : AllNodes (g.s ∷ g.others) = subst (λ (xs : List NodeSubscript). AllNodes xs) g.are k in
+    list_again one s g.s ss g.others rest rest' h right again
+    (agree_at s g.s ss f.others g.others f.s rest rest' f.are (firsts_agree text (s ∷ ss) ts rest rest' f g))
+    ∙ sym g.are
+
+-- subscripts up to a ')' stand there in one way
+one_list : OneText → (text : List ℕ) (ss ts : List NodeSubscript) (rest rest' : List ℕ) → AllNodes ss → AllNodes ts
+    → ListStandsAt text ss rest → ListStandsAt text ts rest' → ss ≡ ts
+one_list one text [] ts rest rest' h k a b = none_first text rest (first_of_list text [] rest a)
+one_list one text (s ∷ ss) ts rest rest' h k a b =
+    let g = first_of_list text ts rest' b in
+    list_same one text s ss ts rest rest' h k (λ m us j x y. one_list one m ss us rest rest' h.1 j x y)
+    (first_of_list text (s ∷ ss) rest a) g
+
+-- a text that is a bare name, or has subscripts
+record IsBareText (text : List ℕ) (node : Node) : Type 0 where
+  written : text ≡ 94 ∷ node.name
+  none : node.subscripts ≡ []
+
+record IsListText (text : List ℕ) (node : Node) : Type 0 where
+  inside : List ℕ
+  written : text ≡ 94 ∷ (node.name ++ 40 ∷ inside)
+  stand : ListStandsAt inside node.subscripts []
+
+none_spelled : (ss : List NodeSubscript) → [] ≡ map spelled ss → ss ≡ []
+none_spelled [] e = refl
+none_spelled (s ∷ ss) e = absurd (cc)
+
+cases_from : (es : List Expression) (text : List ℕ) (node : Node) → AllByRecursion IsExpression es
+    → reference_form node.name (map expression_text es) ≡ text → map expression_bytes es ≡ map spelled node.subscripts
+    → IsBareText text node ⊎ IsListText text node
+cases_from [] text node right w m = inl (record { written = sym w; none = none_spelled node.subscripts m })
+cases_from (x ∷ xs) text node right w m =
+    inr (record {
+      inside = joined 44 (map expression_text (x ∷ xs)) ++ 41 ∷ [];
+      written = sym w;
+      stand = record { expressions = x ∷ xs; some = omega arith; right = right; written = refl; meant = m };
+    })
+
+same_node : (a b : Node) → a.name ≡ b.name → a.subscripts ≡ b.subscripts → a ≡ b
+same_node a b n s =
+    let F : List ℕ → Node = λ name. record { name = name; subscripts = a.subscripts } in
+    let G : List NodeSubscript → Node = λ ss. record { name = b.name; subscripts = ss } in
+    ap F n ∙ ap G s
+
+bare_no_list : (a b : Node) (inside : List ℕ) → IsName a.name → IsName b.name → a.name ≡ b.name ++ 40 ∷ inside → ⊥
+bare_no_list a b inside h k e =
+    let short = name_short a.name a.name [] h (sym (append-nil a.name)) in
+    let exact = name_ended b.name a.name inside k e in
+    let size = ap length e ∙ length-append b.name (40 ∷ inside) in
+    omega (arith, short, exact, size)
+
+same_name : (a b x y : List ℕ) → length a ≡ length b → a ++ x ≡ b ++ y → a ≡ b
+same_name a b x y l e = sym (take_at a x (length b) l) ∙ ap (take (length b)) e ∙ take_at b y (length b) refl
+
+pub one_reference_lem : OneText → (text : List ℕ) (a b : Node) → IsReferenceText text a → IsReferenceText text b → a ≡ b
+one_reference_lem one text a b h k =
+    ⊎_elim
+    (λ (x : IsBareText text a).
+    ⊎_elim
+    (λ (y : IsBareText text b). same_node a b (tail_of 94 94 a.name b.name (sym x.written ∙ y.written)) (x.none
+    ∙ sym y.none))
+    (λ (y : IsListText text b).
+    absurd (bare_no_list a b y.inside h.is_node.name k.is_node.name (tail_of 94 94 a.name (b.name
+    ++ 40 ∷ y.inside) (sym x.written ∙ y.written))))
+    (cases_from k.subscripts text b k.right k.written k.meant))
+    (λ (x : IsListText text a).
+    ⊎_elim
+    (λ (y : IsBareText text b).
+    absurd (bare_no_list b a x.inside k.is_node.name h.is_node.name (tail_of 94 94 b.name (a.name
+    ++ 40 ∷ x.inside) (sym y.written ∙ x.written))))
+    (λ (y : IsListText text b).
+    let whole : a.name ++ 40 ∷ x.inside ≡ b.name ++ 40 ∷ y.inside =
+    tail_of 94 94 (a.name ++ 40 ∷ x.inside) (b.name ++ 40 ∷ y.inside) (sym x.written ∙ y.written) in
+    let size : length a.name ≡ length b.name =
+    sym (name_ended a.name (a.name ++ 40 ∷ x.inside) x.inside h.is_node.name refl)
+    ∙ name_ended b.name (a.name ++ 40 ∷ x.inside) y.inside k.is_node.name whole in
+    let rest : x.inside ≡ y.inside =
+    tail_of 40 40 x.inside y.inside (same_front a.name b.name (40 ∷ x.inside) (40 ∷ y.inside) size whole) in
+    let mine : ListStandsAt y.inside a.subscripts [] =
+    subst (λ (t : List ℕ). ListStandsAt t a.subscripts []) rest x.stand in
+    same_node a b (same_name a.name b.name (40 ∷ x.inside) (40 ∷ y.inside) size whole)
+    (one_list one y.inside a.subscripts b.subscripts [] []
+    (recursion_from_All IsSubscript a.subscripts h.is_node.subscripts)
+    (recursion_from_All IsSubscript b.subscripts k.is_node.subscripts) mine y.stand))
+    (cases_from k.subscripts text b k.right k.written k.meant))
+    (cases_from h.subscripts text a h.right h.written h.meant)
