@@ -6,3 +6,6 @@ pub mod FourLemmas
 pub mod GroupLemmas
 pub mod TellLemmas
 pub mod MapLemmas
+pub mod HeaderLemmas
+pub mod IntegLemmas
+pub mod UnitStub

@@ -18,7 +18,9 @@ use Rattle.gds_law.specs.declared.fault.Fault.{Fault}
 use Rattle.gds_law.specs.declared.kind.FaultKind.{FaultKind}
 use Rattle.gds_law.specs.declared.kind.FaultKind.TheVariants.{BadVersion, TransactionTooNew, MapUsedTooSmall, MapUsedTooLarge, MapLevel, GroupMarkedFree, GroupMarkedFull, IllegalPair, UsedMarkedFree, UnusedMarkedBusy, PairPastTotal, WrongFreeCount}
 use Rattle.integ.specs.GroupMap.{GroupMap, in_use, free_count, head_holds, head_kinds, head_faults, pair_holds, kinds_of_pair, faults_at, faults_in, faults_of}
-use Rattle.integ.specs.Maps.{HasHeader, groups_in, free_before}
+use Rattle.integ.specs.Walk.{IsHeaderOf}
+use Rattle.integ.specs.Maps.{groups_in, free_before}
+use Rattle.integ.proofs.UnitStub.{whole_file}
 
 -- the map of a group of a file
 abbrev pub group_of : List ℕ → List ℕ → ℕ → GroupMap
@@ -132,9 +134,9 @@ block_size-is file =
     let fourth = get_or-take 4 (drop 8 file) 3 0 (omega arith) in
     omega (arith, first, second, third, fourth)
 
-module _ (h : Header) (file : List ℕ) (is : HasHeader h file) (number : ℕ) where
+module _ (h : Header) (file : List ℕ) (is : IsHeaderOf h file) (number : ℕ) where
   size : h.block_size ≡ block_length file
-  size = ap (λ (k : Header). k.block_size) is.fields ∙ block_size-is file
+  size = ap (λ (k : Header). k.block_size) is.same ∙ block_size-is file
 
   length_is : unit_length file (512 * number + 1) ≡ h.block_size
   length_is = ap (λ b. cond b 8192 (block_length file)) (no_header number) ∙ sym size
@@ -148,7 +150,7 @@ module _ (h : Header) (file : List ℕ) (is : HasHeader h file) (number : ℕ) w
   -- The file has the map of a group whose first block it has.
   pub map-unit : 512 * number < h.total → (n : ℕ) → n ≡ h.block_size → IsUnit file (512 * number + 1) n
   map-unit within n this =
-      let whole = is.whole in
+      let whole : file_length_of h ≤ length file = subst (λ (k : Header). file_length_of k ≤ length file) (sym is.same) (whole_file file is.readable) in
       let more = mul-le-mul_left h.block_size within in
       record {
         length_is = this ∙ sym length_is;
@@ -158,31 +160,31 @@ module _ (h : Header) (file : List ℕ) (is : HasHeader h file) (number : ℕ) w
   pub map-bytes : unit_bytes file (512 * number + 1) ≡ map_of file number
   map-bytes =
       (λ i. take (length_is i) (drop (place_is i) file))
-      ∙ ap (λ (k : Header). take k.block_size (drop (8192 + 512 * number * k.block_size) file)) is.fields
+      ∙ ap (λ (k : Header). take k.block_size (drop (8192 + 512 * number * k.block_size) file)) is.same
 
 -- The map that was read is that of the group.
-pub group-here : (h : Header) (file used bytes : List ℕ) (number : ℕ) → HasHeader h file → bytes ≡ unit_bytes file (512 * number + 1)
+pub group-here : (h : Header) (file used bytes : List ℕ) (number : ℕ) → IsHeaderOf h file → bytes ≡ unit_bytes file (512 * number + 1)
     → group_of file used number ≡ record { header = h; number = number; bytes = bytes; used = used }
 group-here h file used bytes number is read =
     let b = sym (read ∙ map-bytes h file is number) in
-    λ i. record { header = sym is.fields i; number = number; bytes = b i; used = used }
+    λ i. record { header = sym is.same i; number = number; bytes = b i; used = used }
 
-pub groups-is : (h : Header) (file : List ℕ) (n : ℕ) → HasHeader h file → n ≡ div_ceil h.total 512 → n ≡ groups_of (fields_of file)
+pub groups-is : (h : Header) (file : List ℕ) (n : ℕ) → IsHeaderOf h file → n ≡ div_ceil h.total 512 → n ≡ groups_of (fields_of file)
 groups-is h file n is e =
     let ceil : div_ceil h.total 512 ≡ (h.total + 511) / 512 = omega arith in
-    e ∙ ceil ∙ ap groups_of is.fields
+    e ∙ ceil ∙ ap groups_of is.same
 
 pub some_at : {A : Type 0} (told : Option A) (P : A → Type 0) (x : A) → told ≡ Some x → IfSome told P → P x
 some_at {A} told P x tells known = let Q : Option A → Type 0 = λ o. IfSome o P in subst Q tells known
 
 -- ---- the free count
 
-pub count-right : (h : Header) (file : List ℕ) (free : ℕ) → HasHeader h file → free ≡ free_blocks file → free ≡ h.free → count_faults file ≡ []
+pub count-right : (h : Header) (file : List ℕ) (free : ℕ) → IsHeaderOf h file → free ≡ free_blocks file → free ≡ h.free → count_faults file ≡ []
 count-right h file free is all same =
-    let right : ((fields_of file).free == free_blocks file) ≡ true = eq-eqb _ _ (ap (λ (k : Header). k.free) (sym is.fields) ∙ sym same ∙ all) in
+    let right : ((fields_of file).free == free_blocks file) ≡ true = eq-eqb _ _ (ap (λ (k : Header). k.free) (sym is.same) ∙ sym same ∙ all) in
     ap (λ b. cond b [] (fault_of 0 WrongFreeCount ∷ [])) right
 
-pub count-wrong : (h : Header) (file : List ℕ) (free : ℕ) → HasHeader h file → free ≡ free_blocks file → (free ≡ h.free → ⊥) → count_faults file ≡ fault_of 0 WrongFreeCount ∷ []
+pub count-wrong : (h : Header) (file : List ℕ) (free : ℕ) → IsHeaderOf h file → free ≡ free_blocks file → (free ≡ h.free → ⊥) → count_faults file ≡ fault_of 0 WrongFreeCount ∷ []
 count-wrong h file free is all other =
-    let wrong : ((fields_of file).free == free_blocks file) ≡ false = ne_eqb _ _ (λ e. other (all ∙ sym e ∙ ap (λ (k : Header). k.free) (sym is.fields))) in
+    let wrong : ((fields_of file).free == free_blocks file) ≡ false = ne_eqb _ _ (λ e. other (all ∙ sym e ∙ ap (λ (k : Header). k.free) (sym is.same))) in
     ap (λ b. cond b [] (fault_of 0 WrongFreeCount ∷ [])) wrong

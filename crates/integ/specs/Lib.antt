@@ -5,3 +5,5 @@ pub mod Standing
 pub mod GroupView
 pub mod Maps
 pub mod Header
+pub mod Walk
+pub mod Integ

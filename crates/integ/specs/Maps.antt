@@ -1,16 +1,9 @@
 -- The maps of a file, group by group.
-use Rattle.std.specs.Prelude.{ℕ, ◌≡◌, ◌≤◌, List, length, flat_map}
+use Rattle.std.specs.Prelude.{ℕ, List, length, flat_map}
 use Rattle.std.specs.List.{range_with_len}
-use Rattle.gds_header.specs.declared.header.Header.{Header}
-use Rattle.gds_header.specs.Fields.{fields_of, file_length_of}
 use Rattle.gds_law.specs.Maps.{free_places, group_faults}
 use Rattle.gds_law.specs.declared.fault.Fault.{Fault}
 use Rattle.integ.specs.GroupMap.{in_use}
-
--- The file has this header, and all the blocks that it says.
-pub record HasHeader (h : Header) (file : List ℕ) : Type 0 where
-  pub fields : h ≡ fields_of file
-  pub whole : file_length_of h ≤ length file
 
 -- the faults of n groups from one on, and how many blocks are free in the groups before one
 unfoldable pub groups_in : List ℕ → List ℕ → ℕ → ℕ → List Fault

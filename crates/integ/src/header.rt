@@ -5,7 +5,7 @@ ghost use Rattle.gds_header.specs.Fields.{fields_of, file_length_of};
 ghost use Rattle.gds_header.specs.Kinds.{IsWithinLimits, ending_kind, groups_past, has_free};
 ghost use Rattle.gds_law.specs.Maps.{fault_of};
 ghost use Rattle.gds_law.specs.Sink.{WasTold};
-ghost use Rattle.integ.specs.Header.{any_set, is_marked, open_kinds};
+ghost use Rattle.integ.specs.Header.{any_set, is_bad_number, is_marked, open_kinds};
 
 use crate::group::GROUP;
 use crate::telling::tell_standing;
@@ -51,9 +51,16 @@ pub(crate) fn tell_header<F: FaultSink>(
     let kinds = [
         (FaultKind::LongFile, header.file_length() < size),
         (FaultKind::ReservedByte, is_marked(header, bytes)),
-        (FaultKind::BadTransactionNumber, !(1..=TN_MAX).contains(&header.tn)),
+        (FaultKind::BadTransactionNumber, is_bad_number(header.tn)),
     ];
     tell_standing(0, &kinds, sink)
+}
+
+/// Whether a header may not have this transaction number.
+fn is_bad_number(tn: u64) -> bool
+    ensures { result ≡ is_bad_number tn }
+{
+    tn == 0 || tn > TN_MAX
 }
 
 /// Whether a byte or a bit of the master map that must be 0 isn't.

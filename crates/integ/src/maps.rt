@@ -5,7 +5,7 @@ ghost use Rattle.gds_header.specs.Kinds.{IsWithinLimits};
 ghost use Rattle.gds_law.specs.Maps.{count_faults, free_blocks, map_faults};
 ghost use Rattle.gds_law.specs.Sink.{Grew};
 ghost use Rattle.integ.specs.GroupMap.{in_use};
-ghost use Rattle.integ.specs.Maps.{HasHeader};
+ghost use Rattle.integ.specs.Walk.{IsHeaderOf};
 
 use crate::group::{GROUP, Group};
 use crate::telling::tell;
@@ -32,7 +32,7 @@ pub fn map_faults<U: UnitSource, F: FaultSink>(
     sink: &mut F,
 ) -> Result<u64, IntegError>
     requires limits { IsWithinLimits header.now }
-    requires header { ForSome (U.image units.old) (HasHeader header.now) }
+    requires header { ForSome (U.image units.old) (IsHeaderOf header.now) }
     ensures told { ForSome (U.image units.old) (λ file. let due = map_faults file (in_use used.now) ++ count_faults file in
         Grew (F.listed sink.old) (F.listed sink.new) due result) }
     ensures count { IfOk result (λ n. ForSome (U.image units.old)
@@ -66,7 +66,7 @@ fn tell_maps<U: UnitSource, F: FaultSink>(
     sink: &mut F,
 ) -> Result<MapsTold, IntegError>
     requires limits { IsWithinLimits header.now }
-    requires header { ForSome (U.image units.old) (HasHeader header.now) }
+    requires header { ForSome (U.image units.old) (IsHeaderOf header.now) }
     requires block { length block.old ≡ header.now.block_size }
     ensures told { ForSome (U.image units.old) (λ file.
         Grew (F.listed sink.old) (F.listed sink.new) (map_faults file (in_use used.now)) result) }
