@@ -4,7 +4,7 @@ use Rattle.std.specs.Prelude.{◌||◌, ◌&&◌, slice_index}
 use Rattle.std.specs.Int.{bit_at}
 use lib.Bits.{bit_and, bit_or}
 use Rattle.std.proofs.lemmas.Bool.{agree_below, agree_below_at, and_parts, cases_eq, eq-eqb, eqb-true, ne_eqb, ltb-true}
-use Rattle.integ.specs.BlockSet.{has_block}
+use Rattle.integ_walk.specs.BlockSet.{has_block}
 use Rattle.integ.specs.GroupMap.{in_use}
 
 -- a test passes at each number below n

@@ -22,10 +22,10 @@ use Rattle.gds_law.proofs.SinkLemmas.{IsCut-none, IsCut-front, IsCut-behind}
 use Rattle.gds_law.proofs.KeptLemmas.{one_fault_list}
 use Rattle.gds_sound.specs.Sound.{HasOneMap}
 use Rattle.gds_sound.proofs.OneMapLemmas.{one_map}
-use Rattle.integ.specs.BlockSet.{has_block}
+use Rattle.integ_walk.specs.BlockSet.{has_block}
 use Rattle.integ.specs.GroupMap.{in_use}
 use Rattle.integ.specs.Integ.{IsOpen, IsToldWhole, IsToldInPart, Opens}
-use Rattle.integ.specs.Walk.{IsWalked, IsWalkedInPart}
+use Rattle.integ_walk.specs.Walk.{IsWalked, IsWalkedInPart}
 
 -- ---- blocks in use
 

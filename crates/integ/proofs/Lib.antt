@@ -8,4 +8,3 @@ pub mod TellLemmas
 pub mod MapLemmas
 pub mod HeaderLemmas
 pub mod IntegLemmas
-pub mod UnitStub

@@ -18,9 +18,9 @@ use Rattle.gds_law.specs.declared.fault.Fault.{Fault}
 use Rattle.gds_law.specs.declared.kind.FaultKind.{FaultKind}
 use Rattle.gds_law.specs.declared.kind.FaultKind.TheVariants.{BadVersion, TransactionTooNew, MapUsedTooSmall, MapUsedTooLarge, MapLevel, GroupMarkedFree, GroupMarkedFull, IllegalPair, UsedMarkedFree, UnusedMarkedBusy, PairPastTotal, WrongFreeCount}
 use Rattle.integ.specs.GroupMap.{GroupMap, in_use, free_count, head_holds, head_kinds, head_faults, pair_holds, kinds_of_pair, faults_at, faults_in, faults_of}
-use Rattle.integ.specs.Walk.{IsHeaderOf}
+use Rattle.integ_walk.specs.Walk.{IsHeaderOf}
 use Rattle.integ.specs.Maps.{groups_in, free_before}
-use Rattle.integ.proofs.UnitStub.{whole_file}
+use Rattle.integ_walk.proofs.UnitLemmas.{whole_file}
 
 -- the map of a group of a file
 abbrev pub group_of : List ℕ → List ℕ → ℕ → GroupMap

@@ -13,7 +13,7 @@ use Rattle.gds_law.specs.Maps.{map_number, is_present, places, fault_of}
 use Rattle.gds_law.specs.declared.fault.Fault.{Fault}
 use Rattle.gds_law.specs.declared.kind.FaultKind.{FaultKind}
 use Rattle.gds_law.specs.declared.kind.FaultKind.TheVariants.{BadVersion, TransactionTooNew, MapUsedTooSmall, MapUsedTooLarge, MapLevel, GroupMarkedFree, GroupMarkedFull, IllegalPair, UsedMarkedFree, UnusedMarkedBusy, PairPastTotal}
-use Rattle.integ.specs.BlockSet.{has_block}
+use Rattle.integ_walk.specs.BlockSet.{has_block}
 
 -- The file's header, which group it is, the bytes of its map, and the set of blocks that kept paths end in.
 pub record GroupMap : Type 0 where

@@ -3,7 +3,7 @@ ghost use Rattle.std.specs.Int.{bit_at};
 ghost use Rattle.std.specs.Option.{option_to_list};
 ghost use Rattle.gds_law.specs.Maps.{map_number};
 ghost use Rattle.gds_law.specs.Sink.{WasTold};
-ghost use Rattle.integ.specs.BlockSet.{has_block};
+ghost use Rattle.integ_walk.specs.BlockSet.{has_block};
 ghost use Rattle.integ.specs.GroupMap.{in_use, free_count, head_faults, head_holds, head_kinds, faults_in, faults_of, kinds_at, pair_faults};
 
 use crate::pairs::{are_right, pair_fault};

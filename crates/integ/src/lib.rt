@@ -5,7 +5,7 @@ ghost use Rattle.std.specs.Prelude.{◌≡◌, Ok, IfOk, OnErr};
 ghost use Rattle.std.specs.Option.{ForSome};
 ghost use Rattle.gds_sound.specs.Sound.{HasOneMap};
 ghost use Rattle.integ.specs.Integ.{IsToldInPart, IsToldWhole};
-ghost use Rattle.integ.specs.Walk.{HasCause};
+ghost use Rattle.integ_walk.specs.Walk.{HasCause};
 
 mod group;
 mod header;
@@ -16,7 +16,6 @@ mod pairs;
 mod raw_file;
 mod sinks;
 mod telling;
-mod walk_stub;
 
 use gds_header::HEADER_LENGTH;
 use gds_law::{FaultKind, FaultSink};

@@ -5,7 +5,7 @@ ghost use Rattle.gds_header.specs.Kinds.{IsWithinLimits};
 ghost use Rattle.gds_law.specs.Maps.{count_faults, free_blocks, map_faults};
 ghost use Rattle.gds_law.specs.Sink.{Grew};
 ghost use Rattle.integ.specs.GroupMap.{in_use};
-ghost use Rattle.integ.specs.Walk.{IsHeaderOf};
+ghost use Rattle.integ_walk.specs.Walk.{IsHeaderOf};
 
 use crate::group::{GROUP, Group};
 use crate::telling::tell;

@@ -4,11 +4,11 @@ ghost use Rattle.std.specs.Option.{ForSome};
 ghost use Rattle.host_model.specs.Failures.{Rose};
 ghost use Rattle.gds_header.specs.Kinds.{IsWithinLimits};
 ghost use Rattle.integ.specs.Integ.{IsOpen, IsToldInPart, IsToldWhole, Opens};
-ghost use Rattle.integ.specs.Walk.{HasCause};
+ghost use Rattle.integ_walk.specs.Walk.{HasCause};
 
 use crate::header::{read_header, tell_header};
 use crate::maps::map_faults;
-use crate::walk_stub::walk;
+use integ_walk::walk;
 use gds_header::{HEADER_LENGTH, Header, HeaderKind};
 use gds_law::FaultSink;
 use host_model::{UnitSource, UnitTrouble};

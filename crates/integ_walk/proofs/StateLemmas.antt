@@ -103,7 +103,7 @@ state_new s limits room none nil = record {
   sound = λ link c. absurd (in_from_Contains [] link (subst (λ ls. Contains ls link) nil c));
   few =
       let most : free_below s.used s.header.total * most_of_block s.header ≤ s.header.total * most_of_block s.header =
-          mul-le-mul_right (most_of_block s.header) (few_free s.used s.header.total) in
+      mul-le-mul_right (most_of_block s.header) (few_free s.used s.header.total) in
       omega (arith, most, none, ap length nil);
 }
 

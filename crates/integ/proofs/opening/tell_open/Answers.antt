@@ -7,7 +7,7 @@ use Rattle.gds_law.specs.Sink.{IsCut}
 use Rattle.gds_law.specs.declared.fault.Fault.{Fault}
 use Rattle.gds_law.proofs.SinkLemmas.{OnErr-any}
 use Rattle.integ.specs.Header.{open_kinds}
-use Rattle.integ.specs.Walk.{IsWalked}
+use Rattle.integ_walk.specs.Walk.{IsWalked}
 use Rattle.integ.proofs.HeaderLemmas.{header-told}
 use Rattle.integ.proofs.IntegLemmas.{header-refused, walk-refused, maps-refused, all-told, header-of}
 use Rattle.integ.proofs.opening.tell_open.Goals as goal
@@ -37,7 +37,7 @@ returns-in_err-seen-clause-refused g c x tells =
     let old = g.F.FaultSink.listed c.args.sink.now in
     let same = header-told x c.args.bytes.now c.args.header.now c.args.size is (c.requires.size x tells) in
     OnErr-any c.from_residual-in_err-seen.result _
-    (walk-refused x is.goes_on old (g.F.FaultSink.listed c.tell_header.new.sink) (g.F.FaultSink.listed c.walk.new._sink)
+    (walk-refused x is.goes_on old (g.F.FaultSink.listed c.tell_header.new.sink) (g.F.FaultSink.listed c.walk.new.sink)
     (c.in_ok-of_header.ensures.told.faults.all ∙ ap (λ xs. old ++ xs) (sym same)) (c.in_err-seen.ensures.refused x tells))
 
 pub returns-in_err-of_maps-clause-refused : goal.returns-in_err-of_maps-clause-refused
@@ -45,7 +45,7 @@ returns-in_err-of_maps-clause-refused g c x tells =
     let is = c.requires.opens x tells in
     let old = g.F.FaultSink.listed c.args.sink.now in
     let now = g.F.FaultSink.listed c.tell_header.new.sink in
-    let later = g.F.FaultSink.listed c.walk.new._sink in
+    let later = g.F.FaultSink.listed c.walk.new.sink in
     let same = header-told x c.args.bytes.now c.args.header.now c.args.size is (c.requires.size x tells) in
     let walked = subst (λ (used : List ℕ). IsWalked x now later used c.in_ok-seen.seen.faults) (sym c.as_slice.ensures.value) (c.in_ok-seen.ensures.walked x tells) in
     OnErr-any c.from_residual-in_err-of_maps.result _
@@ -58,7 +58,7 @@ returns-clause-told g c x tells =
     let is = c.requires.opens x tells in
     let old = g.F.FaultSink.listed c.args.sink.now in
     let now = g.F.FaultSink.listed c.tell_header.new.sink in
-    let later = g.F.FaultSink.listed c.walk.new._sink in
+    let later = g.F.FaultSink.listed c.walk.new.sink in
     let kinds = open_kinds c.args.header.now c.args.bytes.now c.args.size in
     let same = header-told x c.args.bytes.now c.args.header.now c.args.size is (c.requires.size x tells) in
     let walked = subst (λ (used : List ℕ). IsWalked x now later used c.in_ok-seen.seen.faults) (sym c.as_slice.ensures.value) (c.in_ok-seen.ensures.walked x tells) in

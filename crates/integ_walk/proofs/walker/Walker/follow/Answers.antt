@@ -89,12 +89,14 @@ returns-in_ok-enter-clause-on g c x tells kept reached start ak ar on =
     let path = path_to (link g c) in
     let read : bytes g c ≡ block_of x v.block = c.in_ok-enter.ensures.read x tells ∙ ap (λ (w : law.Visit). block_of x w.block) (visit g c) in
     let is : state_of c.enter.new.self ≡ behind (s g c) v path (block_of x v.block) (used g c) =
-        state g c ∙ ap (λ b. behind (s g c) v path b (used g c)) read in
+    state g c ∙ ap (λ b. behind (s g c) v path b (used g c)) read in
     let listed : new ≡ now ++ faults_of_block (s g c).header path v (block_of x v.block) =
-        (c.in_ok-enter.ensures.told x tells).all
-        ∙ (λ i. now ++ faults_of_block (s g c).header (c.into_at.ensures.path i) (visit g c i) (block_of x (visit g c i).block)) in
-    (on_at x kept reached ak ar start _ new _ (state_of c.enter.new.self) listed is
-    (on_entered x kept reached ak ar start (s g c) (used g c) (c.requires.header x tells) now (link g c) c.insert-is_new.ensures.blocks (free g c) on), tt)
+    (c.in_ok-enter.ensures.told x tells).all
+    ∙ (λ i. now ++ faults_of_block (s g c).header (c.into_at.ensures.path i) (visit g c i) (block_of x (visit g c i).block)) in (
+      on_at x kept reached ak ar start _ new _ (state_of c.enter.new.self) listed is
+          (on_entered x kept reached ak ar start (s g c) (used g c) (c.requires.header x tells) now (link g c) c.insert-is_new.ensures.blocks (free g c) on),
+      tt,
+    )
 
 pub returns-in_err-enter-clause-on : goal.returns-in_err-enter-clause-on
 returns-in_err-enter-clause-on g c x tells kept reached start ak ar on =
@@ -106,8 +108,8 @@ returns-in_err-enter-clause-on g c x tells kept reached start ak ar on =
     let free : has_block s.used link.child.visit.block ≡ false = not_true _ (sym c.insert-is_new.ensures.is_new ∙ c.if-is_new.true) in
     let visit : visit_of c.into_at.result.visit ≡ link.child.visit = ap visit_of c.into_at.ensures.visit in
     let due : faults_of_block s.header c.into_at.result.path (visit_of c.into_at.result.visit) (block_of x c.into_at.result.visit.block)
-            ≡ faults_of_block s.header (path_to link) link.child.visit (block_of x link.child.visit.block) =
-        λ i. faults_of_block s.header (c.into_at.ensures.path i) (visit i) (block_of x (visit i).block) in
+    ≡ faults_of_block s.header (path_to link) link.child.visit (block_of x link.child.visit.block) =
+    λ i. faults_of_block s.header (c.into_at.ensures.path i) (visit i) (block_of x (visit i).block) in
     let cut = subst (IsCut now new) due (c.in_err-enter.ensures.told x tells).some in
     let p = err_from_is_err_and c.from_residual.result c.from_residual.ensures.1 in
     only_err c.from_residual.result p.0 _ _ p.1
@@ -136,9 +138,11 @@ returns-in_ok-fault-clause-on g c x tells kept reached start ak ar on =
     let link = link_of c.args.link in
     let now = g.F.FaultSink.listed c.args.sink.now in
     let new = g.F.FaultSink.listed c.fault.new.self in
-    let listed : new ≡ now ++ double_of link ∷ [] = c.in_ok-fault.ensures.ok ∙ ap (λ f. now ++ f ∷ []) c.into_fault.ensures in
-    (on_at x kept reached ak ar start _ new _ _ listed refl
-    (on_past x kept reached ak ar start now s link c.insert-is_new.new.self.bytes.items (same g c) (taken g c) on), tt)
+    let listed : new ≡ now ++ double_of link ∷ [] = c.in_ok-fault.ensures.ok ∙ ap (λ f. now ++ f ∷ []) c.into_fault.ensures in (
+      on_at x kept reached ak ar start _ new _ _ listed refl
+          (on_past x kept reached ak ar start now s link c.insert-is_new.new.self.bytes.items (same g c) (taken g c) on),
+      tt,
+    )
 
 pub returns-in_err-fault-clause-on : goal.returns-in_err-fault-clause-on
 returns-in_err-fault-clause-on g c x tells kept reached start ak ar on =

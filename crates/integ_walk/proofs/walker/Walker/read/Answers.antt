@@ -20,7 +20,7 @@ front n out rest e = ap (λ k. take k (out ++ rest)) (sym e) ∙ take-append_sea
 pub returns-clause-bytes : goal.returns-clause-bytes
 returns-clause-bytes g c x tells =
     on_ok c.unit.result _ _ c.unit.ensures.bytes (λ found.
-        let P : Option (List ℕ) → Type 0 = λ o. IfSome o (λ file. c.unit.new.out ≡ unit_bytes file (c.args.block + 1)) in
-        let same : c.unit.new.out ≡ unit_bytes x (c.args.block + 1) = subst P tells found in
-        front c.args.self.now.block.len c.unit.new.out _ (omega (arith, c.unit.ensures.len, c.deref_mut.ensures.len))
-        ∙ same ∙ unit_is x c.args.block)
+    let P : Option (List ℕ) → Type 0 = λ o. IfSome o (λ file. c.unit.new.out ≡ unit_bytes file (c.args.block + 1)) in
+    let same : c.unit.new.out ≡ unit_bytes x (c.args.block + 1) = subst P tells found in
+    front c.args.self.now.block.len c.unit.new.out _ (omega (arith, c.unit.ensures.len, c.deref_mut.ensures.len))
+    ∙ same ∙ unit_is x c.args.block)
