@@ -1,11 +1,13 @@
 -- The blocks of a file whose header can be read, as its units.
 use Rattle.std.proofs.Common.{◌≡◌, ℕ, ◌+◌, ◌-◌, ◌*◌, ◌<◌, ◌≤◌, ◌==◌, Bool, true, false, ◌||◌, List, [], ◌∷◌, length, take, drop, filter, find, Option, None, Some, inl, inr, refl, sym, ap, subst, ◌∙◌, arith, mul-le-mul_right, if◌then◌else◌}
+use Rattle.std.specs.Int.{w32, from_le_bytes}
 use Rattle.std.specs.List.{list_any}
 use Rattle.std.proofs.lemmas.Bool.{ltb-false, ne_eqb, cond-false}
 use Rattle.host_model.specs.Units.{IsUnit, block_length, unit_length, unit_place, unit_bytes}
 use Rattle.gds_header.specs.declared.header.Header.{Header}
 use Rattle.gds_header.specs.declared.kind.HeaderKind.TheVariants.{ShortFile}
-use Rattle.gds_header.specs.Fields.{u32_at, fields_of, image_length, place_of, block_of}
+use Rattle.gds_block.specs.Fields.{u32_at}
+use Rattle.gds_header.specs.Fields.{fields_of, image_length, place_of, block_of}
 use Rattle.gds_header.specs.Kinds.{ends, holds, kinds, header_faults, ending_kind}
 use Rattle.gds_law.proofs.RankLemmas.{through_any, none_there}
 
@@ -25,9 +27,17 @@ whole_file file h =
     ltb-false (length file) (image_length file)
     (none_there ends (holds file) kinds ShortFile none refl (inr (inr (inr (inr (inr (inr (inl refl))))))))
 
+-- The number in four bytes is read from no more than these.
+four_bytes : (bytes : List ℕ) → from_le_bytes w32 (take 4 bytes) ≡ from_le_bytes w32 bytes
+four_bytes [] = refl
+four_bytes (a ∷ []) = refl
+four_bytes (a ∷ b ∷ []) = refl
+four_bytes (a ∷ b ∷ c ∷ []) = refl
+four_bytes (a ∷ b ∷ c ∷ d ∷ bytes) = refl
+
 same_length : (file : List ℕ) → block_length file ≡ (fields_of file).block_size
 unfolding u32_at
-same_length file = refl
+same_length file = four_bytes (drop 8 file)
 
 not_header : (block : ℕ) → (block + 1 == 0) ≡ false
 not_header block = ne_eqb (block + 1) 0 (λ e. omega (arith, e))
