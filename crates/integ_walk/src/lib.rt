@@ -1,7 +1,7 @@
 //! The walk of the trees of a database file: which paths are kept, in reading order, and the faults that stand there.
 #![tactic(auto)]
 
-ghost use Rattle.std.specs.Prelude.{◌≡◌, ◌+◌, ◌/◌, length, IfOk, OnErr};
+ghost use Rattle.std.specs.Prelude.{◌≡◌, ◌<◌, ◌+◌, ◌/◌, ◌^◌, length, IfOk, OnErr};
 ghost use Rattle.std.specs.Option.{ForSome};
 ghost use Rattle.gds_header.specs.Kinds.{IsWithinLimits};
 ghost use Rattle.integ_walk.specs.Walk.{HasCause, IsHeaderOf, IsWalked, IsWalkedInPart};
@@ -46,7 +46,9 @@ pub fn walk<U: UnitSource, F: FaultSink>(
 
     // Whether it tells or not:
     ensures room { IfOk result (λ seen. length seen.used.items ≡ (header.now.total + 7) / 8) }
+    ensures few { IfOk result (λ seen. seen.faults < 2 ^ 42) }
     ensures cause { HasCause U.image U.failures F.failures units.old units.new sink.old sink.new result }
+    ensures source { U.was_read units.old units.new }
 {
     let mut walker = Walker::new(alloc, header)?;
     walker.begin(units, sink)?;

@@ -82,6 +82,7 @@ impl<'a> Walker<'a> {
         ensures on { ForSome (U.image units.old)
             (λ file. Begins file (F.listed sink.old) (F.listed sink.new) (state_of self.new) result) }
         ensures cause { HasCause U.image U.failures F.failures units.old units.new sink.old sink.new result }
+        ensures source { U.was_read units.old units.new }
     {
         self.used.insert(ROOT);
         let visit = Visit {
@@ -113,6 +114,7 @@ impl<'a> Walker<'a> {
         ensures on { ForSome (U.image units.old) (λ file. ComesOn file (F.listed sink.old) (state_of self.old)
             (F.listed sink.new) (state_of self.new) result) }
         ensures cause { HasCause U.image U.failures F.failures units.old units.new sink.old sink.new result }
+        ensures source { U.was_read units.old units.new }
     {
         while let Some(link) = next_link(&mut self.frames) {
             if self.follow(link, units, sink)? {
@@ -141,6 +143,7 @@ impl<'a> Walker<'a> {
             (λ file. ComesOn file (F.listed sink.old) (with_link (link_of link) (state_of self.old))
             (F.listed sink.new) (state_of self.new) result) }
         ensures cause { HasCause U.image U.failures F.failures units.old units.new sink.old sink.new result }
+        ensures source { U.was_read units.old units.new }
     {
         let is_new = self.used.insert(link.child.visit.block);
         if is_new {
@@ -173,6 +176,7 @@ impl<'a> Walker<'a> {
         ensures buffer { length self.new.block.items ≡ length self.old.block.items }
         ensures header { self.new.header.now ≡ self.old.header.now }
         ensures cause { HasCause U.image U.failures F.failures units.old units.new sink.old sink.new result }
+        ensures source { U.was_read units.old units.new }
     {
         self.read(at.visit.block, units)?;
         let mut children = Vec::new(self.alloc);
@@ -191,6 +195,7 @@ impl<'a> Walker<'a> {
         ensures buffer { length self.new.block.items ≡ length self.old.block.items }
         ensures others { self.new ≡ record self.old { block = self.new.block } }
         ensures image { U.image units.new ≡ U.image units.old }
+        ensures source { U.was_read units.old units.new }
         ensures failures { U.failures units.old ≤ U.failures units.new }
         ensures failed { IsErrOf result UnitTrouble.Failed → Rose (U.failures units.old) (U.failures units.new) }
         ensures changed { (unit : ℕ) → IsErrOf result (UnitTrouble.Changed unit) → U.image units.old ≡ None }

@@ -4,6 +4,8 @@ use Rattle.gds_law.proofs.KeptLemmas.{some_kept, some_reached}
 use Rattle.gds_law.proofs.SinkLemmas.{OnErr-any}
 use Rattle.integ_walk.specs.BlockSet.{has_block}
 use Rattle.integ_walk.specs.Frame.{state_of}
+use Rattle.std.proofs.Math.Nat.{mul-le-mul}
+use Rattle.integ_walk.specs.Walker.{most_of_block}
 use Rattle.integ_walk.proofs.StateLemmas.{on_end}
 use Rattle.integ_walk.proofs.walk.Goals as goal
 
@@ -28,6 +30,7 @@ loop-walker-preserved g c =
           (c.loop-walker.invariant.on x tells kept reached ak ar)).0;
       image = c.in_ok-step.ensures.cause.image ∙ c.loop-walker.invariant.image;
       read = omega (arith, c.in_ok-step.ensures.cause.read, c.loop-walker.invariant.read);
+      source = g.met.U.UnitSource.read_on _ _ _ c.loop-walker.invariant.source c.in_ok-step.ensures.source;
       say = omega (arith, c.in_ok-step.ensures.cause.say, c.loop-walker.invariant.say);
     }
 
@@ -50,3 +53,11 @@ returns-clause-walked g c x tells =
       counted = c.into_seen.ensures.faults ∙ end.1;
       blocks = λ b low. ap (λ bytes. has_block bytes b) c.into_seen.ensures.used ∙ end.2 b;
     }
+
+pub returns-clause-few : goal.returns-clause-few
+returns-clause-few g c =
+    let state = c.in_ok-step.ensures.state in
+    let size : most_of_block (state_of c.step.new.self).header ≤ 1495561 = omega (arith, state.limits.block_to) in
+    let blocks : (state_of c.step.new.self).header.total ≤ 1048576 = omega (arith, state.limits.total_to, state.limits.limit_to) in
+    let most = mul-le-mul blocks size in
+    omega (arith, c.into_seen.ensures.faults, state.few, most)
