@@ -7,7 +7,7 @@ use Rattle.std.specs.Int.{bit_at}
 use Rattle.std.proofs.lemmas.Bool.{lt-ltb, le-ltb}
 use Rattle.gds_bitmap.specs.Pairs.{pair_in, count_below}
 use Rattle.gds_bitmap.specs.Bitmap.{pair_of, is_free_at}
-use Rattle.gds_bitmap.proofs.CountLaws.{count_below-add, count_below-same}
+use Rattle.gds_bitmap.proofs.CountLemmas.{count_below-add, count_below-same}
 use Rattle.gds_law.specs.Maps.{map_number, is_present, fault_of}
 use Rattle.gds_law.specs.Kinds.{map_kinds}
 use Rattle.gds_law.specs.declared.kind.FaultKind.{FaultKind}
