@@ -1,5 +1,5 @@
 -- The faults of the pairs of a group, place by place, and how many of its blocks are free.
-use Rattle.std.proofs.Common.{ℕ, zero, suc, ◌≡◌, ◌+◌, ◌-◌, ◌*◌, ◌/◌, ◌%◌, ◌<◌, ◌≤◌, Bool, true, false, cond, eqb, ltb, List, [], ◌∷◌, ◌++◌, length, refl, sym, ◌∙◌, ap, subst, arith, append_assoc, add-zero, add-suc, one-add}
+use Rattle.std.proofs.Common.{ℕ, zero, suc, ◌≡◌, ◌+◌, ◌-◌, ◌*◌, ◌/◌, ◌%◌, ◌<◌, ◌≤◌, Bool, true, false, eqb, List, [], ◌∷◌, ◌++◌, length, refl, sym, ◌∙◌, ap, arith, append_assoc, add-zero}
 use Rattle.std.specs.Prelude.{flat_map, map, filter, min, nat_lt, slice_index, ◌&&◌, if◌then◌else◌, Option}
 use Rattle.std.specs.Option.{option_to_list}
 use Rattle.std.specs.List.{range_with_len}
@@ -95,9 +95,9 @@ four-none g i byte used whole is bits right = flat-none (faults_at g) 4 (4 * i) 
         let place : k ≡ 4 * i + j = omega arith in
         let present : is_present g.header g.number k ≡ true = lt-ltb _ _ (omega arith) in
         let marked : in_use g.used (map_number g.number + k) ≡ eqb (bit_at used j) 1 =
-            ap (λ m. in_use g.used (map_number g.number + m)) place ∙ sym (bits j within) in
+        ap (λ m. in_use g.used (map_number g.number + m)) place ∙ sym (bits j within) in
         let pair : pair_of g.bytes k ≡ pair_in byte j =
-            ap (pair_of g.bytes) place ∙ pair_of-byte g.bytes i j within ∙ ap (λ b. pair_in b j) (sym is) in
+        ap (pair_of g.bytes) place ∙ pair_of-byte g.bytes i j within ∙ ap (λ b. pair_in b j) (sym is) in
         ap (map (fault_of (map_number g.number + k))) ((λ m. kinds_of_pair (present m) (marked m) (pair m)) ∙ right j within)
 
 -- ---- how many are free

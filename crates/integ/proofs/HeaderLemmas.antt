@@ -1,5 +1,5 @@
 -- The kinds of a header's faults that don't end the reading, as the law lists them.
-use Rattle.std.proofs.Common.{◌≡◌, ℕ, ◌≤◌, ◌^◌, Bool, true, false, not, ◌&&◌, ◌||◌, cond, eqb, ltb, List, [], ◌∷◌, ◌++◌, length, take, drop, Option, Some, None, refl, sym, ap, ◌∙◌, ⊎_elim, arith, lit≤}
+use Rattle.std.proofs.Common.{◌≡◌, ℕ, ◌≤◌, ◌^◌, Bool, true, false, not, ◌&&◌, ◌||◌, cond, eqb, ltb, List, [], ◌∷◌, ◌++◌, length, take, drop, Some, None, refl, sym, ap, ◌∙◌, ⊎_elim, arith, lit≤}
 use Rattle.std.specs.Prelude.{find, filter, map, nat_lt, slice_range}
 use Rattle.std.specs.List.{list_any}
 use Rattle.std.proofs.lemmas.List.Folds.{list_any-append}
@@ -15,7 +15,6 @@ use Rattle.gds_header.proofs.EndingLemmas.{fields_of-front}
 use Rattle.gds_law.specs.Kinds.{fault_kind_of}
 use Rattle.gds_law.specs.Maps.{fault_of}
 use Rattle.gds_law.specs.Faults.{faults_of_header}
-use Rattle.gds_law.specs.declared.kind.FaultKind.{FaultKind}
 use Rattle.gds_law.specs.declared.kind.FaultKind.TheVariants as fault
 use Rattle.integ.specs.Standing.{standing}
 use Rattle.integ.specs.Header.{any_set, is_marked, open_kinds}
@@ -90,7 +89,7 @@ header-told file bytes h size is long =
     let fields : fields_of file ≡ h = sym (fields_of-front 8192 file (lit≤ tt)) ∙ ap fields_of is.begins ∙ sym is.fields in
     let reserved : reserved_bytes file ≡ reserved_bytes bytes = sym (reserved_front 8192 file (lit≤ tt)) ∙ ap reserved_bytes is.begins in
     let marked : holds file ReservedByte ≡ is_marked h bytes =
-        (λ i. any_set (reserved i) || list_any (has_free (fields i)) (groups_past (fields i))) ∙ marked-is h bytes in
+    (λ i. any_set (reserved i) || list_any (has_free (fields i)) (groups_past (fields i))) ∙ marked-is h bytes in
     ap (map (λ kind. fault_of 0 (fault_kind_of kind))) (open_headers file is.goes_on)
     ∙ as_faults (holds file) (LongFile ∷ ReservedByte ∷ BadTransactionNumber ∷ [])
     ∙ (λ i. map (fault_of 0) (standing ((fault.LongFile, nat_lt (file_length_of (fields i)) (sym long i)) ∷ (fault.ReservedByte, marked i)

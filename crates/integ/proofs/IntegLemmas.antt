@@ -1,17 +1,16 @@
 -- What was told of a file adds up to its list of faults.
-use Rattle.std.proofs.Common.{◌≡◌, ℕ, ◌+◌, ◌*◌, ◌%◌, ◌<◌, ◌≤◌, Bool, true, false, ◌&&◌, ◌||◌, ◌==◌, not, List, [], ◌∷◌, ◌++◌, length, map, filter, flat_map, take, drop, Option, Some, None, refl, sym, ap, subst, ◌∙◌, arith, append_assoc, length-append, lit≤}
-use Rattle.std.specs.Prelude.{Result, Ok, Err, IfOk, OnOk, IfErr, All, nat_lt}
+use Rattle.std.proofs.Common.{◌≡◌, ℕ, ◌+◌, ◌%◌, ◌<◌, Bool, true, false, ◌&&◌, ◌||◌, ◌==◌, not, List, [], ◌∷◌, ◌++◌, length, map, filter, flat_map, take, Option, Some, None, refl, sym, ap, subst, ◌∙◌, arith, append_assoc, length-append, lit≤}
+use Rattle.std.specs.Prelude.{Result, Ok, Err, IfOk, OnOk, IfErr, All}
 use Rattle.std.specs.List.{range_with_len}
 use Rattle.std.proofs.lemmas.Bool.{ltb-true}
-use Rattle.std.proofs.lemmas.List.{append-nil}
 use Rattle.gds_header.specs.declared.header.Header.{Header}
 use Rattle.gds_header.specs.declared.kind.HeaderKind.{HeaderKind}
 use Rattle.gds_header.specs.Fields.{fields_of}
 use Rattle.gds_header.specs.Kinds.{ending_kind, groups_of}
 use Rattle.gds_law.specs.Kinds.{fault_kind_of, map_kinds, pair_kinds}
-use Rattle.gds_law.specs.Path.{Steps, AreKept, AreReached}
+use Rattle.gds_law.specs.Path.{Steps}
 use Rattle.gds_law.specs.Tree.{tree_faults, is_reached}
-use Rattle.gds_law.specs.Maps.{map_number, map_of, is_present, places, map_holds, pair_holds, pair_faults, group_faults, map_faults, count_faults, fault_of, is_used}
+use Rattle.gds_law.specs.Maps.{map_number, is_present, places, map_holds, pair_holds, pair_faults, group_faults, map_faults, count_faults, fault_of, is_used}
 use Rattle.gds_law.specs.Faults.{faults_of_header, AreFaultsRead, AreFaultsAfter, AreFaults}
 use Rattle.gds_law.specs.Sink.{IsCut}
 use Rattle.gds_law.specs.declared.fault.Fault.{Fault}

@@ -1,5 +1,5 @@
 -- The maps of a file that tells its bytes, group by group.
-use Rattle.std.proofs.Common.{ℕ, zero, suc, ◌≡◌, ◌+◌, ◌-◌, ◌*◌, ◌/◌, ◌<◌, ◌≤◌, Bool, true, false, cond, List, [], ◌∷◌, ◌++◌, length, take, drop, Option, Some, None, IfSome, refl, sym, ◌∙◌, ap, subst, arith, append_assoc, length-append}
+use Rattle.std.proofs.Common.{ℕ, zero, suc, ◌≡◌, ◌+◌, ◌-◌, ◌*◌, ◌/◌, ◌<◌, ◌≤◌, true, false, cond, List, [], ◌∷◌, ◌++◌, length, take, drop, Option, Some, IfSome, refl, sym, ◌∙◌, ap, subst, arith, length-append}
 use Rattle.std.specs.Prelude.{flat_map, map, filter, not, nat_lt, ◌&&◌, ◌==◌}
 use Rattle.std.specs.List.{range_with_len}
 use Rattle.std.specs.Int.{div_ceil}
@@ -9,12 +9,11 @@ use Rattle.std.proofs.lemmas.List.{get_or-take}
 use Rattle.gds_block.specs.Fields as block
 use Rattle.host_model.specs.Units.{IsUnit, block_length, unit_bytes, unit_length, unit_place}
 use Rattle.gds_header.specs.declared.header.Header.{Header}
-use Rattle.gds_header.specs.Fields.{fields_of, block_of, file_length_of}
+use Rattle.gds_header.specs.Fields.{fields_of, file_length_of}
 use Rattle.gds_header.specs.Kinds.{groups_of, has_free}
 use Rattle.gds_law.specs.Kinds.{map_kinds, pair_kinds}
 use Rattle.gds_law.specs.Maps.{map_number, map_of, places, fault_of, free_places, free_blocks, group_faults, map_faults, count_faults}
 use Rattle.gds_law.specs.Maps as law
-use Rattle.gds_law.specs.declared.fault.Fault.{Fault}
 use Rattle.gds_law.specs.declared.kind.FaultKind.{FaultKind}
 use Rattle.gds_law.specs.declared.kind.FaultKind.TheVariants.{BadVersion, TransactionTooNew, MapUsedTooSmall, MapUsedTooLarge, MapLevel, GroupMarkedFree, GroupMarkedFull, IllegalPair, UsedMarkedFree, UnusedMarkedBusy, PairPastTotal, WrongFreeCount}
 use Rattle.integ.specs.GroupMap.{GroupMap, in_use, free_count, head_holds, head_kinds, head_faults, pair_holds, kinds_of_pair, faults_at, faults_in, faults_of}

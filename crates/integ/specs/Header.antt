@@ -1,5 +1,5 @@
 -- The kinds of a header's faults that don't end the reading, by the header, its bytes and the file's length.
-use Rattle.std.specs.Prelude.{ℕ, ◌^◌, Bool, ◌||◌, not, nat_lt, ◌==◌, List, [], ◌∷◌, filter, slice_range}
+use Rattle.std.specs.Prelude.{ℕ, ◌^◌, Bool, ◌||◌, not, nat_lt, ◌==◌, List, [], ◌∷◌, slice_range}
 use Rattle.std.specs.List.{list_any}
 use Rattle.gds_header.specs.declared.header.Header.{Header}
 use Rattle.gds_header.specs.Fields.{file_length_of}

@@ -77,7 +77,10 @@ impl Group<'_> {
         let has_free = free > 0;
         let kinds = [
             (FaultKind::BadVersion, self.has_bad_version()),
-            (FaultKind::TransactionTooNew, self.header.tn <= u64_at(self.map, 8)),
+            (
+                FaultKind::TransactionTooNew,
+                self.header.tn <= u64_at(self.map, 8),
+            ),
             (FaultKind::MapUsedTooSmall, used < 144),
             (FaultKind::MapUsedTooLarge, used > 144),
             (FaultKind::MapLevel, self.map[3] != 255),

@@ -8,11 +8,11 @@ ghost use Rattle.integ_walk.specs.Walk.{HasCause};
 
 use crate::header::{read_header, tell_header};
 use crate::maps::map_faults;
-use integ_walk::walk;
 use gds_header::{HEADER_LENGTH, Header, HeaderKind};
 use gds_law::FaultSink;
 use host_model::{UnitSource, UnitTrouble};
 use integ_block::IntegError;
+use integ_walk::walk;
 use std::alloc::Global;
 
 /// A file's length, and its header or the kind that ends its reading.

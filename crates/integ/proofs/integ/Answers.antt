@@ -1,4 +1,4 @@
-use Rattle.std.proofs.Common.{◌≡◌, List, [], ◌∷◌, ◌++◌, refl, sym, ◌∙◌, ap, subst}
+use Rattle.std.proofs.Common.{[], ◌∷◌, ◌++◌, refl, sym, ◌∙◌, ap, subst}
 use Rattle.gds_law.specs.Maps.{fault_of}
 use Rattle.gds_law.specs.Sink.{IsCut}
 use Rattle.gds_law.specs.declared.kind.FaultKind.{FaultKind}

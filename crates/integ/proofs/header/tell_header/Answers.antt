@@ -7,7 +7,6 @@ use Rattle.gds_law.specs.declared.kind.FaultKind.TheVariants.{LongFile, Reserved
 use Rattle.gds_law.specs.declared.sink.SinkTrouble.TheVariants.{Failed}
 use Rattle.integ.specs.Header.{open_kinds}
 use Rattle.integ.specs.Standing.{standing}
-use Rattle.integ.proofs.HeaderLemmas.{header-told}
 use Rattle.integ.proofs.header.tell_header.Goals as goal
 
 pub returns-clause-told : goal.returns-clause-told

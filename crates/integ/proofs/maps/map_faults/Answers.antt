@@ -1,11 +1,10 @@
-use Rattle.std.proofs.Common.{ℕ, ◌≡◌, List, [], ◌∷◌, ◌++◌, length, refl, sym, ◌∙◌, ap, subst, arith, length-append}
+use Rattle.std.proofs.Common.{[], ◌∷◌, ◌++◌, refl, sym, ap}
 use Rattle.std.proofs.lemmas.Result.{err_from_is_err_and}
-use Rattle.std.proofs.lemmas.Bool.{eq-eqb, ne_eqb}
 use Rattle.gds_law.specs.Maps.{map_faults, count_faults, fault_of}
 use Rattle.gds_law.specs.declared.kind.FaultKind.TheVariants.{WrongFreeCount}
-use Rattle.gds_law.proofs.SinkLemmas.{IsCut-none, IsCut-front, IsCut-behind, Grew-ok, Grew-err}
+use Rattle.gds_law.proofs.SinkLemmas.{IsCut-none, IsCut-front, IsCut-behind, Grew-err}
 use Rattle.integ.specs.GroupMap.{in_use}
-use Rattle.integ.proofs.MapLemmas.{count-right, count-wrong}
+use Rattle.integ.proofs.MapLemmas.{count-wrong}
 use Rattle.integ.proofs.maps.map_faults.Goals as goal
 
 pub returns-in_err-block-clause-told : goal.returns-in_err-block-clause-told

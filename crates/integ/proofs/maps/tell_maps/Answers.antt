@@ -1,4 +1,4 @@
-use Rattle.std.proofs.Common.{ℕ, ◌≡◌, ◌+◌, ◌-◌, ◌*◌, ◌<◌, List, ◌++◌, refl, sym, ◌∙◌, ap, subst, arith}
+use Rattle.std.proofs.Common.{ℕ, ◌≡◌, ◌+◌, ◌-◌, ◌*◌, List, ◌++◌, refl, sym, ◌∙◌, ap, subst, arith}
 use Rattle.std.specs.Prelude.{Some}
 use Rattle.std.proofs.lemmas.Result.{err_from_is_err_and}
 use Rattle.host_model.specs.Units.{unit_bytes}
@@ -9,7 +9,6 @@ use Rattle.integ.specs.GroupMap.{GroupMap, in_use, faults_of, free_count}
 use Rattle.integ.specs.Maps.{groups_in}
 use Rattle.integ.proofs.TellLemmas.{counted-end}
 use Rattle.integ.proofs.MapLemmas.{group_of, groups_in-next, groups_in-end, groups_in-all, free_before-none, free_before-next, free_before-all, map-unit, group-here, groups-is, some_at}
-use Rattle.integ.proofs.maps.tell_maps.Given.{Over}
 use Rattle.integ.proofs.maps.tell_maps.Goals as goal
 
 pub unit-requires : goal.unit-requires
@@ -43,8 +42,8 @@ loop-number-preserved g c =
     let m : GroupMap = record { header = h; number = n; bytes = c.unit.new.out; used = used } in
     let same : (x : List ℕ) → g.U.UnitSource.image c.args.units.now ≡ Some x → group_of x used n ≡ m =
     λ (x : List ℕ) (tells : g.U.UnitSource.image c.args.units.now ≡ Some x).
-        group-here h x used c.unit.new.out n (c.requires.header x tells)
-        (some_at (g.U.UnitSource.image c.loop-number.units) (λ file. c.unit.new.out ≡ unit_bytes file (512 * n + 1)) x (c.loop-number.invariant.image ∙ tells) c.in_ok-unit.ensures.bytes) in
+    group-here h x used c.unit.new.out n (c.requires.header x tells)
+    (some_at (g.U.UnitSource.image c.loop-number.units) (λ file. c.unit.new.out ≡ unit_bytes file (512 * n + 1)) x (c.loop-number.invariant.image ∙ tells) c.in_ok-unit.ensures.bytes) in
     record {
       told = λ x tells.
           let next : groups_in x used n (end - n) ≡ faults_of m ++ groups_in x used (n + 1) (end - (n + 1)) =
@@ -76,7 +75,7 @@ returns-in_err-told-clause-told g c x tells =
     let h = c.args.header.now in
     let m : GroupMap = record { header = h; number = n; bytes = c.unit.new.out; used = used } in
     let same = group-here h x used c.unit.new.out n (c.requires.header x tells)
-        (some_at (g.U.UnitSource.image c.loop-number.units) (λ file. c.unit.new.out ≡ unit_bytes file (512 * n + 1)) x (c.loop-number.invariant.image ∙ tells) c.in_ok-unit.ensures.bytes) in
+    (some_at (g.U.UnitSource.image c.loop-number.units) (λ file. c.unit.new.out ≡ unit_bytes file (512 * n + 1)) x (c.loop-number.invariant.image ∙ tells) c.in_ok-unit.ensures.bytes) in
     let next : groups_in x used n (end - n) ≡ faults_of m ++ groups_in x used (n + 1) (end - (n + 1)) =
     groups_in-next x used n end c.loop-number-test.true ∙ ap (λ k. faults_of k ++ groups_in x used (n + 1) (end - (n + 1))) same in
     let so = subst (λ (xs : List Fault). Reached (g.F.FaultSink.listed c.args.sink.now) (g.F.FaultSink.listed c.loop-number.sink) xs (map_faults x (in_use used)) c.loop-number.maps.faults) next (c.loop-number.invariant.told x tells) in

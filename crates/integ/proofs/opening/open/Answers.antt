@@ -1,4 +1,4 @@
-use Rattle.std.proofs.Common.{◌≡◌, ℕ, List, length, take, sym, ◌∙◌, arith}
+use Rattle.std.proofs.Common.{◌≡◌, length, sym, ◌∙◌, arith}
 use Rattle.host_model.specs.Units.{unit_bytes}
 use Rattle.gds_header.proofs.EndingLemmas.{ending_kind-short}
 use Rattle.integ.proofs.MapLemmas.{some_at}

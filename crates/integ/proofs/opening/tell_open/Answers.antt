@@ -1,8 +1,6 @@
-use Rattle.std.proofs.Common.{◌≡◌, ℕ, List, ◌++◌, length, sym, ◌∙◌, ap, subst}
-use Rattle.std.specs.Prelude.{map, Some}
+use Rattle.std.proofs.Common.{ℕ, List, ◌++◌, length, sym, ◌∙◌, ap, subst}
 use Rattle.std.proofs.lemmas.List.{length-map}
 use Rattle.gds_law.specs.Maps.{fault_of}
-use Rattle.gds_law.specs.Faults.{faults_of_header}
 use Rattle.gds_law.specs.Sink.{IsCut}
 use Rattle.gds_law.specs.declared.fault.Fault.{Fault}
 use Rattle.gds_law.proofs.SinkLemmas.{OnErr-any}

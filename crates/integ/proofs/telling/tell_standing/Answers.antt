@@ -1,4 +1,4 @@
-use Rattle.std.proofs.Common.{◌≡◌, ◌+◌, Bool, false, List, [], ◌∷◌, get_or, drop, sym, ◌∙◌, ap, subst, arith}
+use Rattle.std.proofs.Common.{◌≡◌, ◌+◌, false, List, [], ◌∷◌, get_or, drop, sym, ◌∙◌, ap, subst, arith}
 use Rattle.std.specs.Prelude.{map}
 use Rattle.std.proofs.lemmas.Result.{err_from_is_err_and}
 use Rattle.gds_law.specs.Maps.{fault_of}
@@ -8,7 +8,6 @@ use Rattle.gds_law.specs.declared.sink.SinkTrouble.TheVariants.{Failed}
 use Rattle.gds_law.proofs.SinkLemmas.{Reached, Reached-more, WasTold-refused}
 use Rattle.integ.specs.Standing.{standing}
 use Rattle.integ.proofs.StandingLemmas.{standing-yes, standing-not}
-use Rattle.integ.proofs.telling.tell_standing.Given.{Over}
 use Rattle.integ.proofs.telling.tell_standing.Goals as goal
 use Rattle.integ.proofs.telling.tell_standing.Goals.{then-stands+in_ok-tell, else-stands}
 
@@ -20,9 +19,9 @@ loop-kind-preserved g c =
     let k = get_or kinds i (ShortHeader, false) in
     let told = g.F.FaultSink.listed in
     let so : (ks : List FaultKind) → standing (drop i kinds) ≡ ks
-        → Reached (told c.args.sink.now) (told c.loop-kind.sink) (map (fault_of block) ks) (map (fault_of block) (standing kinds)) c.loop-kind.count =
+    → Reached (told c.args.sink.now) (told c.loop-kind.sink) (map (fault_of block) ks) (map (fault_of block) (standing kinds)) c.loop-kind.count =
     λ (ks : List FaultKind) (e : standing (drop i kinds) ≡ ks).
-        subst (λ (ks : List FaultKind). Reached (told c.args.sink.now) (told c.loop-kind.sink) (map (fault_of block) ks) (map (fault_of block) (standing kinds)) c.loop-kind.count) e c.loop-kind.invariant.told in
+    subst (λ (ks : List FaultKind). Reached (told c.args.sink.now) (told c.loop-kind.sink) (map (fault_of block) ks) (map (fault_of block) (standing kinds)) c.loop-kind.count) e c.loop-kind.invariant.told in
     elim c.if-stands.branch [
       | then-stands+in_ok-tell w ↦
           let e = standing-yes kinds i (ShortHeader, false) c.loop-kind-test.true w.if-stands.true in

@@ -1,11 +1,9 @@
-use Rattle.std.proofs.Common.{◌++◌, length, sym, ◌∙◌, ap, arith, length-append}
-use Rattle.std.specs.Prelude.{map}
+use Rattle.std.proofs.Common.{sym, ◌∙◌, arith, length-append}
 use Rattle.std.proofs.lemmas.List.{length-map}
 use Rattle.std.proofs.lemmas.Result.{err_from_is_err_and}
 use Rattle.gds_bitmap.specs.Bitmap.{is_free_at}
 use Rattle.gds_bitmap.proofs.CountLemmas.{count_below_le}
 use Rattle.gds_law.specs.Maps.{fault_of, map_number}
-use Rattle.gds_law.specs.declared.fault.Fault.{Fault}
 use Rattle.gds_law.specs.declared.sink.SinkTrouble.TheVariants.{Failed}
 use Rattle.integ.specs.GroupMap.{head_faults, head_kinds, pair_faults}
 use Rattle.integ.specs.GroupView.{map_of}

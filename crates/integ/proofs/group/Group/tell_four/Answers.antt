@@ -1,11 +1,11 @@
-use Rattle.std.proofs.Common.{◌≡◌, ℕ, ◌+◌, ◌-◌, List, [], ◌∷◌, ◌++◌, sym, ◌∙◌, ap, subst, arith}
+use Rattle.std.proofs.Common.{◌≡◌, ◌+◌, ◌-◌, List, [], ◌∷◌, ◌++◌, sym, ◌∙◌, ap, subst, arith}
 use Rattle.std.specs.Prelude.{Some, None}
 use Rattle.std.proofs.lemmas.Result.{err_from_is_err_and}
 use Rattle.gds_law.specs.Maps.{fault_of, map_number}
 use Rattle.gds_law.specs.declared.fault.Fault.{Fault}
 use Rattle.gds_law.specs.declared.sink.SinkTrouble.TheVariants.{Failed}
 use Rattle.gds_law.proofs.SinkLemmas.{Reached, Reached-more, WasTold-refused}
-use Rattle.integ.specs.GroupMap.{faults_at, faults_in}
+use Rattle.integ.specs.GroupMap.{faults_in}
 use Rattle.integ.specs.GroupView.{map_of}
 use Rattle.integ.proofs.GroupLemmas.{faults_in-next, faults_in-end, faults_at-is}
 use Rattle.integ.proofs.TellLemmas.{counted-end, told-end}
