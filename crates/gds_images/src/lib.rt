@@ -1,0 +1,2 @@
+//! The file of before images.
+#![tactic(auto)]
