@@ -11,9 +11,10 @@ use Rattle.gds_header.specs.Fields.{fields_of, block_of}
 use Rattle.gds_law.specs.Visit.{Visit, Child, directory_root}
 use Rattle.gds_law.specs.Path.{Steps, children_at, child_at, visit_from, visit_at, step_cmp, path_cmp, front_of}
 use Rattle.gds_law.proofs.MembershipLemmas.{IsIn, in_map, in_flat_map}
-use Rattle.gds_law.proofs.RankLemmas.{rank, falls}
+use Rattle.gds_law.specs.Rank.{rank}
+use Rattle.gds_law.proofs.RankLemmas.{falls}
 
-step_total : IsTotalOrder step_cmp
+pub step_total : IsTotalOrder step_cmp
 step_total = then_total (on_total (λ (p : ℕ × ℕ). p.1) nat_cmp_total) (on_total (λ (p : ℕ × ℕ). p.0) nat_cmp_total)
 
 pub path_total : IsTotalOrder path_cmp

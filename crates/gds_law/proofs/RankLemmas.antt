@@ -1,4 +1,4 @@
--- A visit's rank, which bounds how many records lead on from there: each child's is smaller.
+-- Each child's rank is smaller than its block's.
 use Rattle.std.proofs.Common.{◌≡◌, ℕ, ◌+◌, ◌-◌, ◌<◌, ◌==◌, Bool, true, false, not, ◌&&◌, ◌||◌, if◌then◌else◌, List, []}
 use Rattle.std.proofs.Common.{◌∷◌, ◌++◌, filter, Option, None, Some, inl, inr, refl, sym, ap, subst, ◌∙◌, arith}
 use Rattle.std.specs.List.{list_any}
@@ -8,22 +8,13 @@ use Rattle.gds_header.specs.Kinds.{through_first}
 use Rattle.gds_block.specs.Record.{Record, records_of}
 use Rattle.gds_law.specs.Kinds.{ends, head_kinds}
 use Rattle.gds_law.specs.Visit.{TreeRole, directory, global, Visit, Child}
+use Rattle.gds_law.specs.Rank.{rank_of, rank}
 use Rattle.gds_law.specs.BlockReading.{BlockReading, PlacedRecord, reading_of, has_values, is_last, pointer_of, key_of}
 use Rattle.gds_law.specs.Record.{target_of, is_ended, child_to, children_of_record, is_sound}
 use Rattle.gds_law.specs.Block.{is_wrong_level, head_holds, kinds_of_head, children_from, children_of}
 use Rattle.gds_law.specs.declared.kind.FaultKind.{FaultKind}
 use Rattle.gds_law.specs.declared.kind.FaultKind.TheVariants.{WrongLevel}
 use Rattle.gds_law.proofs.MembershipLemmas.{IsIn, in_either}
-
--- a global's tree has 8 levels at most, and so has the directory's, which leads to them
-abbrev pub rank_of : TreeRole → Option ℕ → ℕ
-rank_of directory None = 15
-rank_of directory (Some due) = due + 8
-rank_of (global name) None = 7
-rank_of (global name) (Some due) = due
-
-abbrev pub rank : Visit → ℕ
-rank v = rank_of v.role v.level
 
 -- a level below
 not_zero : (level : ℕ) → (level == 0) ≡ false → 0 < level
@@ -98,7 +89,7 @@ children_fall b previous (r ∷ rs) c right i =
     ]
 
 -- No kind that is there among the told ones ends the reading: none of the asked ones that would is there.
-through_any : {A : Type 0} (test : A → Bool) (xs : List A) → list_any test (through_first test xs) ≡ list_any test xs
+pub through_any : {A : Type 0} (test : A → Bool) (xs : List A) → list_any test (through_first test xs) ≡ list_any test xs
 through_any test [] = refl
 through_any {A} test (x ∷ xs) = by (test x) refl (through_any test xs)
   where
@@ -107,7 +98,7 @@ through_any {A} test (x ∷ xs) = by (test x) refl (through_any test xs)
     by true e h = rw e refl
     by false e h = ap (λ u. test x || u) h
 
-none_there : {A : Type 0} (test there : A → Bool) (xs : List A) (x : A) → list_any test (filter there xs) ≡ false
+pub none_there : {A : Type 0} (test there : A → Bool) (xs : List A) (x : A) → list_any test (filter there xs) ≡ false
     → test x ≡ true → IsIn xs x → there x ≡ false
 none_there test there [] x h e i = absurd i
 none_there {A} test there (y ∷ ys) x h e i = by (there y) refl h i (none_there test there ys x)

@@ -1,5 +1,6 @@
 pub mod Kinds
 pub mod Visit
+pub mod Rank
 pub mod Number
 pub mod Key
 pub mod BlockReading

@@ -7,7 +7,7 @@ use Rattle.gds_law.specs.Visit.{TreeRole, directory, global, Visit, Child}
 use Rattle.gds_law.specs.Path.{children_at}
 use Rattle.gds_sound.specs.Sound.{Tree, joined, forest_of, items_at, sound_tree, tree_at, root_of}
 use Rattle.gds_law.proofs.MembershipLemmas.{IsIn, in_left, in_right}
-use Rattle.gds_law.proofs.RankLemmas.{rank_of, rank}
+use Rattle.gds_law.specs.Rank.{rank_of, rank}
 use Rattle.gds_law.proofs.PathLemmas.{child_lower}
 use Rattle.gds_sound.proofs.BlockLemmas.{level_at, leaf_visits, value_leaf, index_role}
 use Rattle.gds_sound.proofs.TreeLemmas.{IsLeaf, IsIndex, leaf_parts, index_parts, root_only, forest_parts, RootsSound}

@@ -27,7 +27,7 @@ use Rattle.gds_sound.proofs.PathLemmas.{EndsApart, counted_ends, end_counted, co
 
 -- ---- tests of some element
 
-any_in : {A : Type 0} (test : A → Bool) (xs : List A) → list_any test xs ≡ true → (x : A) × IsIn xs x × (test x ≡ true)
+pub any_in : {A : Type 0} (test : A → Bool) (xs : List A) → list_any test xs ≡ true → (x : A) × IsIn xs x × (test x ≡ true)
 any_in test [] h = absurd (cc)
 any_in {A} test (x ∷ xs) h =
     elim (or_cases (test x) (list_any test xs) h) [
@@ -35,7 +35,7 @@ any_in {A} test (x ∷ xs) h =
       | inr e ↦ let r = any_in test xs e in (r.0, inr r.1, r.2)
     ]
 
-in_any : {A : Type 0} (test : A → Bool) (xs : List A) (x : A) → IsIn xs x → test x ≡ true → list_any test xs ≡ true
+pub in_any : {A : Type 0} (test : A → Bool) (xs : List A) (x : A) → IsIn xs x → test x ≡ true → list_any test xs ≡ true
 in_any test [] x i e = absurd i
 in_any test (y ∷ ys) x (inl same) e = or_left (test y) (list_any test ys) (ap test same ∙ e)
 in_any test (y ∷ ys) x (inr i) e = or_right (test y) (list_any test ys) (in_any test ys x i e)
@@ -181,15 +181,15 @@ same_from (s ∷ p) (t ∷ q) h =
     let rest = same_from p q k.1 in
     λ i. (a i, b i) ∷ rest i
 
-among_from : (paths : List Steps) (path : Steps) → Contains paths path → is_among paths path ≡ true
+pub among_from : (paths : List Steps) (path : Steps) → Contains paths path → is_among paths path ≡ true
 among_from paths path c = in_any (same_steps path) paths path (in_from_Contains paths path c) (same_itself path)
 
-from_among : (paths : List Steps) (path : Steps) → is_among paths path ≡ true → Contains paths path
+pub from_among : (paths : List Steps) (path : Steps) → is_among paths path ≡ true → Contains paths path
 from_among paths path h =
     let r = any_in (same_steps path) paths h in
     Contains-from_in paths path (subst (IsIn paths) (sym (same_from path r.0 r.2)) r.1)
 
-at_kept : (image : List ℕ) (kept : List Steps) (path : Steps) (v : Visit) → Contains kept path
+pub at_kept : (image : List ℕ) (kept : List Steps) (path : Steps) (v : Visit) → Contains kept path
     → visit_at image path ≡ Some v
     → faults_at image kept path ≡ map (fault_at (reading_at image v) path) (kinds_at image v)
 at_kept image kept path v c h =

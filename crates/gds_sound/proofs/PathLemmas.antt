@@ -10,7 +10,7 @@ use Rattle.std.proofs.lemmas.Bool.{or_cases, or_left, or_right}
 use Rattle.gds_law.specs.Visit.{Visit, Child}
 use Rattle.gds_law.specs.Path.{Steps, children_at, child_at, visit_from}
 use Rattle.gds_law.proofs.MembershipLemmas.{IsIn}
-use Rattle.gds_law.proofs.RankLemmas.{rank}
+use Rattle.gds_law.specs.Rank.{rank}
 use Rattle.gds_sound.proofs.BlockLemmas.{RisingFrom, children_apart, child_found, above}
 use Rattle.gds_law.proofs.PathLemmas.{child_lower}
 use Rattle.gds_sound.proofs.TreeLemmas.{LeadsThrough, leads_through}

@@ -1,5 +1,6 @@
 -- A level-0 block of a global of whose head and records no kind stands.
-use Rattle.std.proofs.Common.{ℕ, ◌≡◌, ◌+◌, ◌<◌, ◌≤◌, Bool, true, false, List, [], ◌∷◌, ◌++◌, length, Option, None, Some, refl, sym, ◌∙◌, ap, arith, length-drop, length-take}
+use Rattle.std.proofs.Common.{ℕ, ◌≡◌, ◌+◌, ◌<◌, ◌≤◌, Bool, true, false, List, [], ◌∷◌, ◌++◌, length, Option, None, Some}
+use Rattle.std.proofs.Common.{refl, sym, ◌∙◌, ap, arith, length-drop, length-take}
 use Rattle.std.specs.Prelude.{filter, map, not, is_none, nat_lt, nat_le, ◌&&◌, ◌||◌, ◌==◌, if◌then◌else◌}
 use Rattle.std.specs.List.{AllByRecursion, list_any}
 use Rattle.std.proofs.lemmas.Bool.{eq-eqb, ne_eqb, lt-leb, le-ltb, and_left, or_from}
@@ -10,13 +11,15 @@ use Rattle.gds_header.specs.Kinds.{through_first}
 use Rattle.gds_law.specs.Kinds.{ends, head_kinds}
 use Rattle.gds_law.specs.Visit.{Visit, global}
 use Rattle.gds_law.specs.BlockReading.{BlockReading, reading_of, points, has_values}
-use Rattle.gds_law.specs.Block.{head_holds, is_wrong_level, may_be_empty, kinds_of_head, kinds_from, kinds_of_block, children_of, children_from}
+use Rattle.gds_law.specs.Block.{head_holds, is_wrong_level, may_be_empty, kinds_of_head, kinds_from, kinds_of_block}
+use Rattle.gds_law.specs.Block.{children_of, children_from}
 use Rattle.gds_law.specs.declared.kind.FaultKind.{FaultKind}
 use Rattle.gds_law.specs.declared.kind.FaultKind.TheVariants.{BadVersion}
 use Rattle.integ_quick.specs.Head.{IsCleanHead}
 use Rattle.integ_quick.proofs.KindLemmas.{filter-none, if_none, children_from-none}
 
-module _ (h : Header) (v : Visit) (bytes : List ℕ) (whole : length bytes ≡ h.block_size) (head : IsCleanHead h v.level bytes) where
+module _ (h : Header) (v : Visit) (bytes : List ℕ) (whole : length bytes ≡ h.block_size)
+    (head : IsCleanHead h v.level bytes) where
   abbrev b : BlockReading
   b = reading_of h v bytes
 
@@ -25,7 +28,8 @@ module _ (h : Header) (v : Visit) (bytes : List ℕ) (whole : length bytes ≡ h
 
   none_hold : AllByRecursion (λ k. head_holds b bytes k ≡ false) head_kinds
   none_hold =
-      (or_from (not (version_of bytes == 1)) (not (reserved_of bytes == 0)) (ap not (eq-eqb _ _ head.version)) (ap not (eq-eqb _ _ head.reserved)),
+      (or_from (not (version_of bytes == 1)) (not (reserved_of bytes == 0))
+      (ap not (eq-eqb _ _ head.version)) (ap not (eq-eqb _ _ head.reserved)),
       (lt-leb h.tn (tn_of bytes) head.tn,
       (le-ltb (used_of bytes) 16 (omega (arith, head.some)),
       (le-ltb h.block_size (used_of bytes) within,
@@ -40,7 +44,8 @@ module _ (h : Header) (v : Visit) (bytes : List ℕ) (whole : length bytes ≡ h
   pub kinds_of_block-none : kinds_from b bytes 16 [] (records_of bytes) ≡ [] → kinds_of_block b bytes ≡ []
   unfolding kinds_of_block
   kinds_of_block-none none =
-      ap (λ ks. map (λ kind. (0, kind)) ks ++ (if list_any ends ks then [] else kinds_from b bytes 16 [] (records_of bytes))) kinds_of_head-none ∙ none
+      ap (λ ks. map (λ kind. (0, kind)) ks
+          ++ (if list_any ends ks then [] else kinds_from b bytes 16 [] (records_of bytes))) kinds_of_head-none ∙ none
 
   pub children_of-none : (name : List ℕ) → v.role ≡ global name → children_of h v bytes ≡ []
   unfolding children_of

@@ -1,16 +1,21 @@
 -- A record with which nothing is wrong, as the law of faults has it.
-use Rattle.std.proofs.Common.{ℕ, ◌≡◌, ◌+◌, ◌≤◌, ◌<◌, ◌⊎◌, inl, inr, Bool, true, false, List, ◌∷◌, ◌++◌, length, take, drop, Option, None, Some, refl, sym, ◌∙◌, ap, subst, arith, append_assoc, length-append, length-take, length-drop}
+use Rattle.std.proofs.Common.{ℕ, ◌≡◌, ◌+◌, ◌≤◌, ◌<◌, ◌⊎◌, inl, inr, Bool, true, false, List, ◌∷◌, ◌++◌, length, take}
+use Rattle.std.proofs.Common.{drop, Option, None, Some, refl, sym, ◌∙◌, ap, subst, arith, append_assoc, length-append}
+use Rattle.std.proofs.Common.{length-take, length-drop}
 use Rattle.std.specs.Prelude.{option_map, unwrap_or, is_none, nat_lt, nat_le, not, ◌&&◌, ◌==◌, bytes_eq}
 use Rattle.std.proofs.lemmas.Bool.{le-leb, le-ltb, lt-leb, eq-eqb, ne_eqb, and_left, and_right}
 use Rattle.std.proofs.lemmas.List.{take_at, drop_at, take-append-drop, take-take}
 use Rattle.std.proofs.lemmas.Slice.Eq.{bytes_eq-Decides}
 use Rattle.m_key.specs.KeyEnd.{key_len, end_in, zero_after, shared, HasOpenFronts}
-use Rattle.m_key.proofs.KeyEndLemmas.{key_len-end_in, end_in-append_open, end_in-take_same, key_len-append, HasOpenFronts-take}
+use Rattle.m_key.proofs.KeyEndLemmas.{key_len-end_in, end_in-append_open, end_in-take_same, key_len-append}
+use Rattle.m_key.proofs.KeyEndLemmas.{HasOpenFronts-take}
 use Rattle.gds_law.specs.Visit.{global}
 use Rattle.m_key.specs.KeyParts.{name_part}
 use Rattle.gds_law.specs.Key.{key_fault}
-use Rattle.gds_law.specs.BlockReading.{BlockReading, PlacedRecord, is_first, is_last, size_of, full_of, key_end, key_of, rest_of, has_values, points}
-use Rattle.gds_law.specs.Record.{keyed_holds, is_below, is_directory, is_other_global, is_above_bound, is_below_bound, kinds_of, is_ended}
+use Rattle.gds_law.specs.BlockReading.{BlockReading, PlacedRecord, is_first, is_last, size_of, full_of, key_end, key_of}
+use Rattle.gds_law.specs.BlockReading.{rest_of, has_values, points}
+use Rattle.gds_law.specs.Record.{keyed_holds, is_below, is_directory, is_other_global, is_above_bound, is_below_bound}
+use Rattle.gds_law.specs.Record.{kinds_of, is_ended}
 use Rattle.gds_law.specs.declared.kind.FaultKind.TheVariants.{FirstCount, CountTooLarge}
 use Rattle.integ_quick.specs.Record.{Follows, EndsIn}
 use Rattle.integ_quick.proofs.KindLemmas.{IsClean}
@@ -18,16 +23,20 @@ use Rattle.integ_quick.proofs.KindLemmas.{IsClean}
 -- an end in the front of some bytes
 key_len-take_more : (bytes : List ℕ) (m n : ℕ) → key_len bytes ≡ Some n → n ≤ m → key_len (take m bytes) ≡ Some n
 key_len-take_more bytes m n h le =
-    let same : key_len (take n bytes) ≡ Some n = key_len-end_in (take n bytes) ∙ end_in-take_same bytes false n (sym (key_len-end_in bytes) ∙ h) in
+    let same : key_len (take n bytes) ≡ Some n = key_len-end_in (take n bytes)
+        ∙ end_in-take_same bytes false n (sym (key_len-end_in bytes) ∙ h) in
     let front : take n (take m bytes) ≡ take n bytes = take-take n m bytes le in
     ap key_len (sym (take-append-drop n (take m bytes)) ∙ ap (λ xs. xs ++ drop n (take m bytes)) front)
     ∙ key_len-append (take n bytes) _ n same
 
 -- The record is its block's first and has count 0, or it stands behind others and its count is within the key before.
 abbrev pub IsPlaced : PlacedRecord → Type 0
-IsPlaced s = ((s.record_.offset ≡ 16) × (s.record_.count ≡ 0)) ⊎ ((16 < s.record_.offset) × (s.record_.count < length s.previous))
+IsPlaced s =
+    ((s.record_.offset ≡ 16) × (s.record_.count ≡ 0))
+    ⊎ ((16 < s.record_.offset) × (s.record_.count < length s.previous))
 
-module _ (b : BlockReading) (s : PlacedRecord) (placed : IsPlaced s) (fronts : HasOpenFronts s.previous) (key : List ℕ) (e : EndsIn b.header s.previous s.record_.count s.record_.body key) where
+module _ (b : BlockReading) (s : PlacedRecord) (placed : IsPlaced s) (fronts : HasOpenFronts s.previous) (key : List ℕ)
+    (e : EndsIn b.header s.previous s.record_.count s.record_.body key) where
   abbrev front : List ℕ
   front = take s.record_.count s.previous
 
@@ -67,7 +76,8 @@ module _ (b : BlockReading) (s : PlacedRecord) (placed : IsPlaced s) (fronts : H
   pub length-key : length key ≡ at
   length-key =
       ap length e.bytes
-      ∙ omega (arith, e.within, length-append front (take e.key_end s.record_.body), length-front, length-take e.key_end s.record_.body)
+      ∙ omega (arith, e.within, length-append front (take e.key_end s.record_.body), length-front,
+          length-take e.key_end s.record_.body)
 
   pub key_of-is : key_of b s ≡ key
   key_of-is =
@@ -104,7 +114,9 @@ module _ (b : BlockReading) (s : PlacedRecord) (placed : IsPlaced s) (fronts : H
 same_name : (a b : List ℕ) → b ≡ a → not (bytes_eq a b) ≡ false
 same_name a b h = ap not ((bytes_eq-Decides a b).1 (sym h))
 
-module _ (b : BlockReading) (s : PlacedRecord) (placed : IsPlaced s) (fronts : HasOpenFronts s.previous) (name key : List ℕ) (level : b.level ≡ 0) (role : b.visit.role ≡ global name) (follows : Follows b.header name s.previous s.record_.count s.record_.body key) where
+module _ (b : BlockReading) (s : PlacedRecord) (placed : IsPlaced s) (fronts : HasOpenFronts s.previous)
+    (name key : List ℕ) (level : b.level ≡ 0) (role : b.visit.role
+    ≡ global name) (follows : Follows b.header name s.previous s.record_.count s.record_.body key) where
   pub points-none : points b ≡ false
   points-none = ap (λ r. not (has_values b r)) role ∙ ap not (eq-eqb b.level 0 level)
 
@@ -123,8 +135,10 @@ module _ (b : BlockReading) (s : PlacedRecord) (placed : IsPlaced s) (fronts : H
         count = ap not (eq-eqb _ _ (follows.shares ∙ ap (shared s.previous) (sym is)));
         order = ap not (ap (is_below s.previous) is ∙ follows.rises);
         faultless = ap key_fault is ∙ follows.faultless;
-        name = ap (λ r. is_other_global r (name_part (key_of b s))) role ∙ same_name name (name_part (key_of b s)) (ap name_part is ∙ follows.named);
+        name = ap (λ r. is_other_global r (name_part (key_of b s))) role
+            ∙ same_name name (name_part (key_of b s)) (ap name_part is ∙ follows.named);
         not_above = ap (is_above_bound b.visit.high) is ∙ above;
-        not_below = ap (λ k. is_below_bound b.level b.visit.low k) is ∙ ap (λ n. is_below_bound n b.visit.low key) level ∙ below;
+        not_below = ap (λ k. is_below_bound b.level b.visit.low k) is
+            ∙ ap (λ n. is_below_bound n b.visit.low key) level ∙ below;
         value = value-short b s placed fronts key follows.ending;
       }

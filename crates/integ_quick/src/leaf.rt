@@ -1,6 +1,6 @@
-ghost use Rattle.std.specs.Prelude.{◌≡◌, ◌≤◌, ◌<◌, ◌+◌, ◌⊎◌, ℕ, List, [], ◌∷◌, ◌++◌, ◌==◌, true, false, not, length, drop, count_by, option_map};
+ghost use Rattle.std.specs.Prelude.{◌≡◌, ◌≤◌, ◌<◌, ◌+◌, ◌⊎◌, ◌==◌, ℕ, List, [], ◌∷◌, ◌++◌, true, false, not, length};
+ghost use Rattle.std.specs.Prelude.{drop, count_by, option_map};
 ghost use Rattle.std.specs.Bool.{OnTrue};
-ghost use Rattle.arrayvec.specs.ArrayVec.{array_vec_len};
 ghost use Rattle.gds_block.specs.Record.{records_of};
 ghost use Rattle.m_key.specs.Node.{is_name};
 ghost use Rattle.gds_law.specs.BlockReading.{BlockReading};
@@ -11,6 +11,7 @@ ghost use Rattle.integ_quick.specs.Record.{EndsIn, Follows};
 ghost use Rattle.integ_quick.specs.Leaf.{Reads};
 
 use crate::front::Front;
+use crate::key_so_far::KeySoFar;
 use crate::subscripts::{are_subscripts, last_start};
 use gds_header::Header;
 use m_key::{Key, end_in, ends_in_zero};
@@ -38,7 +39,7 @@ impl Leaf<'_> {
         let Some(first) = Front::of(left) else {
             return false;
         };
-        let mut key = Key::new();
+        let mut key = KeySoFar::new();
         if !self.takes_first(&mut key, first) {
             return false;
         }
@@ -49,19 +50,19 @@ impl Leaf<'_> {
             }
             rest = front.rest;
         }
-        rest.is_empty() && self.is_below_high(&key)
+        rest.is_empty() && self.is_below_high(key.as_slice())
     }
 
     // Whether nothing is wrong with the first record, whose key then takes the place of none.
-    fn takes_first(&self, key: &mut Key, front: Front<'_>) -> bool
+    fn takes_first(&self, key: &mut KeySoFar, front: Front<'_>) -> bool
         requires key_max { self.now.header.now.key_max ≤ 255 }
         requires name { is_name self.now.name.now ≡ true }
-        requires none { key.old.items ≡ [] }
+        requires none { key.old ≡ [] }
         ensures follows { OnTrue result
-            (Follows self.now.header.now self.now.name.now [] front.entry.count front.entry.body.now key.new.items) }
+            (Follows self.now.header.now self.now.name.now [] front.entry.count front.entry.body.now key.new) }
         ensures count { OnTrue result (front.entry.count ≡ 0) }
         ensures not_below { OnTrue result
-            (is_below_bound 0 (option_map (λ low. low.items) self.now.low.now) key.new.items ≡ false) }
+            (is_below_bound 0 (option_map (λ low. low.items) self.now.low.now) key.new ≡ false) }
     {
         if front.count > 0 || !self.takes_end(key, front) || !has_name(key.as_slice(), self.name) {
             return false;
@@ -69,25 +70,26 @@ impl Leaf<'_> {
         if !are_subscripts(&key.as_slice()[self.name.len() + 1..]) || !has_few(key.as_slice()) {
             return false;
         }
-        !self.is_below_low(key)
+        !self.is_below_low(key.as_slice())
     }
 
     // Whether nothing is wrong with a further record, whose key then takes the place of the one before.
-    fn takes_next(&self, key: &mut Key, front: Front<'_>) -> bool
+    fn takes_next(&self, key: &mut KeySoFar, front: Front<'_>) -> bool
         requires key_max { self.now.header.now.key_max ≤ 255 }
         requires name { is_name self.now.name.now ≡ true }
         requires some { 1 ≤ length front.body.now }
-        requires right { IsKeyOf self.now.name.now key.old.items }
+        requires right { IsKeyOf self.now.name.now key.old }
         ensures follows { OnTrue result
-            (Follows self.now.header.now self.now.name.now key.old.items front.entry.count front.entry.body.now key.new.items) }
-        ensures count { OnTrue result (front.entry.count < length key.old.items) }
+            (Follows self.now.header.now self.now.name.now key.old front.entry.count front.entry.body.now key.new) }
+        ensures count { OnTrue result (front.entry.count < length key.old) }
     {
         let count = front.count;
-        if count <= self.name.len() || key.len() <= count || front.body[0] <= key.as_slice()[count] {
+        let before = key.as_slice();
+        if count <= self.name.len() || before.len() <= count || front.body[0] <= before[count] {
             return false;
         }
         let behind_name = self.name.len() + 1;
-        let start = behind_name + last_start(&key.as_slice()[behind_name..count]);
+        let start = behind_name + last_start(&before[behind_name..count]);
         if !self.takes_end(key, front) || !are_subscripts(&key.as_slice()[start..]) {
             return false;
         }
@@ -96,11 +98,11 @@ impl Leaf<'_> {
 
     // Whether the key ends in the record's body and neither the key nor what follows is too long. The key then takes
     // the place of the one before.
-    fn takes_end(&self, key: &mut Key, front: Front<'_>) -> bool
+    fn takes_end(&self, key: &mut KeySoFar, front: Front<'_>) -> bool
         requires key_max { self.now.header.now.key_max ≤ 255 }
-        requires count { front.count ≤ array_vec_len key.old }
+        requires count { front.count ≤ length key.old }
         ensures { OnTrue result
-            (EndsIn self.now.header.now key.old.items front.entry.count front.entry.body.now key.new.items) }
+            (EndsIn self.now.header.now key.old front.entry.count front.entry.body.now key.new) }
     {
         let Some(end) = end_in(ends_in_zero(&key.as_slice()[..front.count]), front.body) else {
             return false;
@@ -111,24 +113,24 @@ impl Leaf<'_> {
         {
             return false;
         }
-        key.truncate(front.count);
-        key.try_extend_from_slice(changed).is_ok()
+        key.replace_end(front.count, changed);
+        true
     }
 
-    fn is_below_low(&self, key: &Key) -> bool
-        ensures { is_below_bound 0 (option_map (λ low. low.items) self.now.low.now) key.now.items ≡ result }
+    fn is_below_low(&self, key: &[u8]) -> bool
+        ensures { is_below_bound 0 (option_map (λ low. low.items) self.now.low.now) key.now ≡ result }
     {
         match self.low {
-            Some(low) => key.as_slice().cmp(low.as_slice()).is_lt(),
+            Some(low) => key.cmp(low.as_slice()).is_lt(),
             None => false,
         }
     }
 
-    fn is_below_high(&self, key: &Key) -> bool
-        ensures { is_above_bound (option_map (λ high. high.items) self.now.high.now) key.now.items ≡ not result }
+    fn is_below_high(&self, key: &[u8]) -> bool
+        ensures { is_above_bound (option_map (λ high. high.items) self.now.high.now) key.now ≡ not result }
     {
         match self.high {
-            Some(high) => key.as_slice().cmp(high.as_slice()).is_lt(),
+            Some(high) => key.cmp(high.as_slice()).is_lt(),
             None => true,
         }
     }

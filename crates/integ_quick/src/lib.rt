@@ -11,6 +11,7 @@ ghost use Rattle.gds_law.specs.Block.{kinds_of_block, children_of};
 ghost use Rattle.integ_quick.specs.Head.{IsCleanHead};
 
 mod front;
+mod key_so_far;
 mod leaf;
 mod subscripts;
 
@@ -20,8 +21,8 @@ use gds_law::{Role, Visit};
 use leaf::Leaf;
 use m_key::is_name;
 
-/// Whether a quick reading finds the block to be a level-0 block of a global with which nothing is wrong. Then no kind
-/// of fault stands of it, and it has no children. It may find so or not of such a block, and never of another one.
+/// Whether a quick reading finds that this is a level-0 block of a global and nothing is wrong with it: no kind of
+/// fault stands of it, and it has no children. Where it doesn't find so, the block is to be read in full.
 pub fn is_clean_leaf(bytes: &[u8], header: &Header, visit: &Visit) -> bool
     requires limits { IsWithinLimits header.now }
     requires whole { length bytes.now ≡ header.now.block_size }

@@ -8,7 +8,7 @@ use Rattle.std.proofs.lemmas.List.Concat.{flat_map-append}
 use Rattle.m_key.specs.declared.key.Written.{Written}
 use Rattle.m_key.specs.Node.{Node, NodeSubscript}
 use Rattle.m_key.specs.Key.{escaped, ended, lead_bytes, key_bytes}
-use Rattle.m_key.specs.Writing.{Appends}
+use Rattle.m_key.specs.Written.{Appends}
 
 -- what didn't fit stays out
 take-front : (n : ℕ) (xs ys : List ℕ) → take n (take n xs ++ ys) ≡ take n (xs ++ ys)
@@ -77,8 +77,7 @@ pub key_written : (a b c d e : Written) (n : Node) (name : List ℕ) (ss : List 
     → (e.front.items ≡ take 255 (key_bytes n)) × (e.len ≡ min (length (key_bytes n)) (2 ^ 64 - 1))
 key_written a b c d e n name ss new none f g p q r s =
     let lead =
-    appends_more a c d (name
-    ++ 0 ∷ []) (flat_map ended ss) (lead_bytes n) (appends_more a b c name (0 ∷ []) (name
-    ++ 0 ∷ []) p q refl) r (lead_parts n name ss f g) in
+    appends_more a c d (name ++ 0 ∷ []) (flat_map ended ss) (lead_bytes n)
+    (appends_more a b c name (0 ∷ []) (name ++ 0 ∷ []) p q refl) r (lead_parts n name ss f g) in
     let all = appends_more a d e (lead_bytes n) (0 ∷ []) (key_bytes n) lead s refl in
     (all.front ∙ ap (λ l. take 255 (l ++ key_bytes n)) new, omega (arith, all.len, none))

@@ -122,8 +122,8 @@ end_in-take_less (b ∷ bytes) z n zero h k = refl
 end_in-take_less (b ∷ bytes) z n (suc m) h k =
     elim (some_step (z && (b == 0)) (end_in (b == 0) bytes) n h) [
       | inl e ↦ absurd (omega (arith, e.1))
-      | inr e ↦ still_open (z
-          && (b == 0)) _ None e.open_still (end_in-take_less bytes (b == 0) e.tail m e.found (omega (arith, e.more)))
+      | inr e ↦ still_open (z && (b == 0)) _ None e.open_still
+          (end_in-take_less bytes (b == 0) e.tail m e.found (omega (arith, e.more)))
     ]
 
 pub end_in-take_same : (bytes : List ℕ) (z : Bool) (n : ℕ) → end_in z bytes ≡ Some n → end_in z (take n bytes) ≡ Some n
@@ -131,8 +131,8 @@ end_in-take_same [] z n h = absurd (cc)
 end_in-take_same (b ∷ bytes) z n h =
     elim (some_step (z && (b == 0)) (end_in (b == 0) bytes) n h) [
       | inl e ↦ rw (e.1, e.0) refl
-      | inr e ↦ rw e.more (still_open (z
-          && (b == 0)) _ (Some e.tail) e.open_still (end_in-take_same bytes (b == 0) e.tail e.found))
+      | inr e ↦ rw e.more
+          (still_open (z && (b == 0)) _ (Some e.tail) e.open_still (end_in-take_same bytes (b == 0) e.tail e.found))
     ]
 
 -- ---- keys

@@ -111,8 +111,8 @@ lead-last a = last_by a.name a.subscripts
 past-is : (a : Node) (front : List ℕ) → lead_bytes a ≡ front ++ 0 ∷ [] → past_bytes a ≡ front ++ 1 ∷ []
 past-is a front e =
     ap (λ l. take (length l - 1) l ++ 1 ∷ []) e
-    ∙ ap (λ l. l
-    ++ 1 ∷ []) (take_at front (0 ∷ []) (length (front ++ 0 ∷ []) - 1) (omega (arith, length-append front (0 ∷ []))))
+    ∙ ap (λ l. l ++ 1 ∷ [])
+    (take_at front (0 ∷ []) (length (front ++ 0 ∷ []) - 1) (omega (arith, length-append front (0 ∷ []))))
 
 -- a key of a descendant begins so
 pub lead-begins : (a b : Node) (h : Leads a b) → key_bytes b ≡ lead_bytes a ++ (flat_map ended h.subscripts.0 ++ 0 ∷ [])
@@ -172,11 +172,10 @@ module _ (laws : NumberLaws) where
   cmp-all (s ∷ ss) [] p q = rw (ended-more s ss (0 ∷ [])) (end_greater s (0 ∷ (flat_map ended ss ++ 0 ∷ [])) [] p.0)
   cmp-all (s ∷ ss) (t ∷ ts) p q =
       rw (ended-more s ss (0 ∷ []), ended-more t ts (0 ∷ []))
-      (cmp-ended (subscript_bytes s) (subscript_bytes t) (flat_map ended ss ++ 0 ∷ []) (flat_map ended ts
-      ++ 0 ∷ []) (NoZero-subscript s p.0) (NoZero-subscript t q.0)
+      (cmp-ended (subscript_bytes s) (subscript_bytes t) (flat_map ended ss ++ 0 ∷ []) (flat_map ended ts ++ 0 ∷ [])
+      (NoZero-subscript s p.0) (NoZero-subscript t q.0)
       ∙ ap (λ o. ordering_then o (slice_cmp nat_cmp (flat_map ended ss ++ 0 ∷ []) (flat_map ended ts ++ 0 ∷ [])))
-      (cmp-subscript s t p.0 q.0)
-      ∙ ap (ordering_then (subscript_cmp s t)) (cmp-all ss ts p.1 q.1))
+      (cmp-subscript s t p.0 q.0) ∙ ap (ordering_then (subscript_cmp s t)) (cmp-all ss ts p.1 q.1))
 
   -- one subscript for each of the bytes
   same-subscript : (s t : NodeSubscript) → IsSubscript s → IsSubscript t → subscript_bytes s ≡ subscript_bytes t → s ≡ t
@@ -198,8 +197,8 @@ module _ (laws : NumberLaws) where
       → flat_map ended (s ∷ ss) ++ x ≡ flat_map ended (t ∷ ts) ++ y
       → (s ≡ t) × (flat_map ended ss ++ x ≡ flat_map ended ts ++ y)
   split-all s t ss ts x y p q e =
-      let r = split-ended (subscript_bytes s) (subscript_bytes t) (flat_map ended ss ++ x) (flat_map ended ts
-      ++ y) (NoZero-subscript s p) (NoZero-subscript t q) (sym (ended-more s ss x) ∙ e ∙ ended-more t ts y) in
+      let r = split-ended (subscript_bytes s) (subscript_bytes t) (flat_map ended ss ++ x) (flat_map ended ts ++ y)
+      (NoZero-subscript s p) (NoZero-subscript t q) (sym (ended-more s ss x) ∙ e ∙ ended-more t ts y) in
       (same-subscript s t p q r.0, r.1)
 
   same-all : (ss ts : List NodeSubscript) (rest : List ℕ) → Right ss → Right ts
@@ -234,14 +233,14 @@ module _ (laws : NumberLaws) where
   unfolding reference_cmp
   order a b p q =
       ap₂ (slice_cmp nat_cmp) (key-is a) (key-is b)
-      ∙ cmp-ended a.name b.name (flat_map ended a.subscripts ++ 0 ∷ []) (flat_map ended b.subscripts
-      ++ 0 ∷ []) (NoZero-name a p) (NoZero-name b q)
+      ∙ cmp-ended a.name b.name (flat_map ended a.subscripts ++ 0 ∷ []) (flat_map ended b.subscripts ++ 0 ∷ [])
+      (NoZero-name a p) (NoZero-name b q)
       ∙ ap (ordering_then (slice_cmp nat_cmp a.name b.name)) (cmp-all a.subscripts b.subscripts (right a p) (right b q))
 
   pub none_begins : (a b : Node) (rest : List ℕ) → IsNode a → IsNode b → key_bytes b ≡ key_bytes a ++ rest → a ≡ b
   none_begins a b rest p q e =
-      let r = split-ended a.name b.name (flat_map ended a.subscripts ++ 0 ∷ rest) (flat_map ended b.subscripts
-      ++ 0 ∷ []) (NoZero-name a p) (NoZero-name b q)
+      let r = split-ended a.name b.name (flat_map ended a.subscripts ++ 0 ∷ rest)
+      (flat_map ended b.subscripts ++ 0 ∷ []) (NoZero-name a p) (NoZero-name b q)
       (sym (ap (λ l. l ++ rest) (key-is a) ∙ append_assoc a.name (0 ∷ (flat_map ended a.subscripts ++ 0 ∷ [])) rest
       ∙ ap (λ l. a.name ++ 0 ∷ l) (append_assoc (flat_map ended a.subscripts) (0 ∷ []) rest)) ∙ sym e ∙ key-is b) in
       let s = same-all a.subscripts b.subscripts rest (right a p) (right b q) r.1 in
@@ -253,8 +252,8 @@ module _ (laws : NumberLaws) where
   pub leads_from : (a b : Node) → IsNode a → IsNode b → (rest : List ℕ) × (key_bytes b ≡ lead_bytes a ++ rest)
       → Leads a b
   leads_from a b p q (rest, e) =
-      let r = split-ended a.name b.name (flat_map ended a.subscripts ++ rest) (flat_map ended b.subscripts
-      ++ 0 ∷ []) (NoZero-name a p) (NoZero-name b q)
+      let r = split-ended a.name b.name (flat_map ended a.subscripts ++ rest) (flat_map ended b.subscripts ++ 0 ∷ [])
+      (NoZero-name a p) (NoZero-name b q)
       (sym (lead-is a rest) ∙ sym e ∙ key-is b) in
       record { name = sym r.0; subscripts = begun-all a.subscripts b.subscripts rest (right a p) (right b q) r.1 }
 

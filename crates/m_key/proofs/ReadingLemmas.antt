@@ -90,8 +90,9 @@ none_read done ss rest part more l other split f none = read_by l.more l.right l
     read_by : (left : List NodeSubscript) → Right left → flat_map ended left ++ 0 ∷ [] ≡ rest → ⊥
     read_by [] p e = other (sym e)
     read_by (m ∷ ms) p e =
-        none m p.0 (split-ended (subscript_bytes m) part (flat_map ended ms
-        ++ 0 ∷ []) more (keys.NoZero-subscript numbers m p.0) (no_zero part f)
+        none m p.0
+        (split-ended (subscript_bytes m) part (flat_map ended ms ++ 0 ∷ []) more
+        (keys.NoZero-subscript numbers m p.0) (no_zero part f)
         (sym (keys.ended-more m ms (0 ∷ [])) ∙ e ∙ sym split)).0
 
 -- no byte 0 is left
@@ -133,8 +134,8 @@ none_weaker (Some x) A B f h = h
 pub name_front : (n : Node) (key front more : List ℕ) → IsNode n → key_bytes n ≡ key → front ++ 0 ∷ more ≡ key
     → All (λ b. 0 < b) front → (n.name ≡ front) × (flat_map ended n.subscripts ++ 0 ∷ [] ≡ more)
 name_front n key front more p e split f =
-    split-ended n.name front (flat_map ended n.subscripts
-    ++ 0 ∷ []) more (keys.NoZero-name numbers n p) (no_zero front f)
+    split-ended n.name front (flat_map ended n.subscripts ++ 0 ∷ []) more (keys.NoZero-name numbers n p)
+    (no_zero front f)
     (sym (keys.key-is n) ∙ e ∙ sym split)
 
 -- each key has a byte 0

@@ -91,10 +91,8 @@ text_again (b ∷ []) text e =
 text_again (b ∷ c ∷ bytes) text e =
     elim (cases_Bool (nat_lt 1 b)) [
       | inl t ↦ plain_again b (c ∷ bytes) text (ltb-true 1 b t) (text_again (c ∷ bytes)) e
-      | inr t ↦ pair_again b c bytes text ((b == 1)
-          && (c == 1 || c ==
-          2)) refl (text_again bytes) (sym (cond-false (nat_lt 1 b)
-          (option_map (λ text. b ∷ text) (unescaped (c ∷ bytes))) _ t) ∙ e)
+      | inr t ↦ pair_again b c bytes text ((b == 1) && (c == 1 || c == 2)) refl (text_again bytes)
+          (sym (cond-false (nat_lt 1 b) (option_map (λ text. b ∷ text) (unescaped (c ∷ bytes))) _ t) ∙ e)
     ]
 
 pub unescaped_none : (bytes : List ℕ) → 0 < length bytes → ((b : ℕ) (rest : List ℕ) → escaped b ++ rest ≡ bytes → ⊥)

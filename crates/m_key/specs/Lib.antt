@@ -9,4 +9,4 @@ pub mod KeyParts
 pub mod Collation
 pub mod Globals
 pub mod Reference
-pub mod Writing
+pub mod Written

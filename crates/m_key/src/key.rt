@@ -33,7 +33,7 @@ impl Written {
     ghost use Rattle.std.specs.Prelude.{◌++◌, ◌∷◌, [], length, map, take, min, flat_map};
     ghost use Rattle.m_key.specs.Key.{escaped, subscript_bytes, ended, key_bytes};
     ghost use Rattle.m_key.specs.Reference.{node_subscript_of, node_of};
-    ghost use Rattle.m_key.specs.Writing.{Appends};
+    ghost use Rattle.m_key.specs.Written.{Appends};
 
     /// The key of a reference.
     pub(crate) fn of(reference: &Reference) -> Written

@@ -84,7 +84,7 @@ fn without_end(key: &[u8]) -> &[u8]
 }
 
 /// What stands before the first 0 and what stands behind it, where there is a 0.
-pub(crate) fn split_at_zero(bytes: &[u8]) -> Option<(&[u8], &[u8])>
+pub fn split_at_zero(bytes: &[u8]) -> Option<(&[u8], &[u8])>
     ensures some { IfSome result (λ s. s.0.now ++ 0 ∷ s.1.now ≡ bytes.now) }
     ensures first { IfSome result (λ s. All (λ b. 0 < b) s.0.now) }
     ensures none { IfNone result (All (λ b. 0 < b) bytes.now) }

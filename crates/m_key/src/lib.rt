@@ -18,7 +18,9 @@ pub use collation::compare;
 pub use escapes::is_escaped_text;
 pub use key::{Key, KeyTooLong};
 pub use key_end::{end_in, ends_in_zero, join_key, key_from, shared_len};
-pub use key_parts::{SubscriptParts, has_subscripts, name_part, subscript_count, subscript_parts};
+pub use key_parts::{
+    SubscriptParts, has_subscripts, name_part, split_at_zero, subscript_count, subscript_parts,
+};
 pub use keys::{key_len, key_of};
 pub use laws::{changes, descendants, no_key_begins_another, order, places};
 pub use name::{Name, is_name};

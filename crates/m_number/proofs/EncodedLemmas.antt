@@ -275,8 +275,8 @@ found s first packed t =
     let f = and_parts (nat_lt 147 first) (nat_lt first 238) p.0 in
     let q = and_parts (have_ends s packed) (list_all (λ b. is_pair (signed_byte s b)) packed) p.1 in
     let l = and_parts _ (nat_lt 1 (signed_byte s (slice_index packed (length packed - 1)))) q.0 in
-    let b = and_parts (nat_lt 0 (length packed)
-    && nat_le (length packed) 9) (nat_lt 16 (signed_byte s (slice_index packed 0))) l.0 in
+    let b = and_parts (nat_lt 0 (length packed) && nat_le (length packed) 9)
+    (nat_lt 16 (signed_byte s (slice_index packed 0))) l.0 in
     let c = and_parts (nat_lt 0 (length packed)) (nat_le (length packed) 9) b.0 in
     found_by s first packed (exponent_of first (ltb-true 147 first f.0) (ltb-true first 238 f.1))
     (packed_from s packed q.1 (ltb-true 1 _ l.1)) (ltb-true 0 (length packed) c.0) (leb-true (length packed) 9 c.1)

@@ -44,9 +44,8 @@ digits_again negative [] h = refl
 digits_again negative (a ∷ []) h =
     ap (λ (xs : List ℕ). xs ++ []) (pair_again negative a 0 (16 * a + 1) h.0 (omega arith) (omega arith))
 digits_again negative (a ∷ b ∷ ds) h =
-    ap (λ (xs : List ℕ). xs
-    ++ flat_map (pair_of negative) (map (signed_byte negative) (pairs_of ds))) (pair_again negative a b (16 * a + b
-    + 1) h.0 h.1.0 refl)
+    ap (λ (xs : List ℕ). xs ++ flat_map (pair_of negative) (map (signed_byte negative) (pairs_of ds)))
+    (pair_again negative a b (16 * a + b + 1) h.0 h.1.0 refl)
     ∙ ap (λ (xs : List ℕ). a ∷ b ∷ xs) (digits_again negative ds h.1.1)
 
 filling_is : (ds : List ℕ) → (filling ds ≡ []) ⊎ (filling ds ≡ 0 ∷ [])

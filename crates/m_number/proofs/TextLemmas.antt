@@ -184,15 +184,17 @@ large_not_point s h = let t : eqb (slice_index s 0) 46 ≡ false = grind (arith,
 
 -- a text of 1 or more begins with a digit
 large_start : (d : ℕ) (ds : List ℕ) (e : ℕ) (b : Bool)
-    → 47 < slice_index (cond b (codes_of (d ∷ ds) ++ zeros (e + 1 - length (d ∷ ds))) (codes_of (take (e + 1) (d ∷ ds))
-    ++ 46 ∷ codes_of (drop (e + 1) (d ∷ ds)))) 0
+    → 47 < slice_index
+    (cond b (codes_of (d ∷ ds) ++ zeros (e + 1 - length (d ∷ ds)))
+    (codes_of (take (e + 1) (d ∷ ds)) ++ 46 ∷ codes_of (drop (e + 1) (d ∷ ds)))) 0
 large_start d ds e true = omega arith
 large_start d ds e false = rw add-one (omega arith)
 
 large_again_by : (d : ℕ) (ds : List ℕ) (e : ℕ) → 0 < slice_index (d ∷ ds) (length (d ∷ ds) - 1) → (b : Bool)
     → leb (length (d ∷ ds)) (e + 1) ≡ b
-    → large_reading (cond b (codes_of (d ∷ ds) ++ zeros (e + 1 - length (d ∷ ds))) (codes_of (take (e + 1) (d ∷ ds))
-    ++ 46 ∷ codes_of (drop (e + 1) (d ∷ ds)))) ≡ (codes_of (d ∷ ds), pos e)
+    → large_reading
+    (cond b (codes_of (d ∷ ds) ++ zeros (e + 1 - length (d ∷ ds)))
+    (codes_of (take (e + 1) (d ∷ ds)) ++ 46 ∷ codes_of (drop (e + 1) (d ∷ ds)))) ≡ (codes_of (d ∷ ds), pos e)
 large_again_by d ds e last true t =
     let le : length (d ∷ ds) ≤ e + 1 = leb-true (length (d ∷ ds)) (e + 1) t in
     filled_again (d ∷ ds) (e + 1 - length (d ∷ ds)) e (omega arith) last (omega arith)
@@ -323,8 +325,8 @@ joined none first both front back ds e f g h =
 
 -- how long texts are
 large_length : (ds : List ℕ) (e : ℕ) → length ds ≤ 18 → e ≤ 46 → (b : Bool) → leb (length ds) (e + 1) ≡ b
-    → length (cond b (codes_of ds ++ zeros (e + 1 - length ds)) (codes_of (take (e + 1) ds)
-    ++ 46 ∷ codes_of (drop (e + 1) ds))) ≤ 61
+    → length (cond b (codes_of ds ++ zeros (e + 1 - length ds))
+    (codes_of (take (e + 1) ds) ++ 46 ∷ codes_of (drop (e + 1) ds))) ≤ 61
 large_length ds e count high true t =
     let n = length-map ds (λ d. 48 + d) in
     let z = length-zeros (e + 1 - length ds) in

@@ -19,7 +19,8 @@ pub fn one_encoding()
 
 /// The bytes of numbers, compared one after another, are in the order of the numbers.
 pub fn order()
-    ensures { (a b : Numeral) → IsNumeral a → IsNumeral b → slice_cmp nat_cmp (bytes_of a) (bytes_of b) ≡ number_cmp a b }
+    ensures { (a b : Numeral) → IsNumeral a → IsNumeral b
+        → slice_cmp nat_cmp (bytes_of a) (bytes_of b) ≡ number_cmp a b }
 {}
 
 /// No text of a number is longer.

@@ -40,8 +40,10 @@ impl Number {
 
     /// The number of these parts, where there is one.
     pub(crate) fn new(negative: bool, digits: Digits, exponent: i8) -> Option<Number>
-        ensures some { IfSome result (λ n. numeral_of n ≡ record { negative = negative; digits = digits; exponent = exponent }) }
-        ensures none { IfNone result (IsNumeral (record { negative = negative; digits = digits; exponent = exponent }) → ⊥) }
+        ensures some { IfSome result (λ n.
+            numeral_of n ≡ record { negative = negative; digits = digits; exponent = exponent }) }
+        ensures none { IfNone result
+            (IsNumeral (record { negative = negative; digits = digits; exponent = exponent }) → ⊥) }
     {
         if is_number(negative, digits.as_slice(), exponent) {
             Some(Number {

@@ -1,4 +1,5 @@
-ghost use Rattle.std.specs.Prelude.{◌≡◌, ◌+◌, ◌-◌, ◌<◌, ◌≤◌, ◌≢◌, ◌==◌, ℕ, pos, negsuc, ◌≤ℤ◌, List, ◌++◌, length, All, map, not, replicate, IfSome, IfNone, IsSomeAnd, slice_index};
+ghost use Rattle.std.specs.Prelude.{◌≡◌, ◌+◌, ◌-◌, ◌<◌, ◌≤◌, ◌≢◌, ◌==◌, ℕ, pos, negsuc, ◌≤ℤ◌, List, ◌++◌, length, All};
+ghost use Rattle.std.specs.Prelude.{map, not, replicate, IfSome, IfNone, IsSomeAnd, slice_index};
 ghost use Rattle.std.specs.List.{prefix_len, suffix_len};
 ghost use Rattle.arrayvec.specs.ArrayVec.{array_vec_len};
 ghost use Rattle.m_number.specs.Numeral.{Numeral, IsNumeral};

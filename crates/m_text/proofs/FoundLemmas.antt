@@ -1,7 +1,7 @@
 -- A front and the text behind it.
 use Rattle.std.proofs.Common.{◌≡◌, ℕ, List, [], ◌++◌, Option, None, Some, refl, sym, ap}
 use Rattle.std.proofs.lemmas.List.{append_assoc}
-use Rattle.m_text.specs.Reading.{Found, with_front}
+use Rattle.m_text.specs.Front.{Found, with_front}
 
 -- what a front was put before
 pub record IsFronted (front : List ℕ) (found : Option Found) (bytes rest : List ℕ) : Type 0 where

@@ -6,7 +6,7 @@ use Rattle.std.specs.Prelude.{bytes_eq}
 use Rattle.std.proofs.lemmas.Bool.{eqb-true, false≢true, cond-true, cases_Bool, cond-false, and_parts}
 use Rattle.std.proofs.lemmas.Slice.Eq.{bytes_eq-Decides}
 use Rattle.m_text.specs.Grammar.{Word, c, char, zch, zchar, word_text}
-use Rattle.m_text.specs.Reading.{leads, behind, first_some, behind_word}
+use Rattle.m_text.specs.Front.{leads, behind, first_some, behind_word}
 
 -- whether a text begins with a byte that passes a test
 abbrev pub heads : (ℕ → Bool) → List ℕ → Bool

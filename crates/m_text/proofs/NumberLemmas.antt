@@ -6,7 +6,7 @@ use Rattle.std.specs.List.{list_all, AllByRecursion, All}
 use Rattle.std.proofs.lemmas.List.Elements.{recursion_from_All, All-take, All-drop}
 use Rattle.m_number.specs.Numeral.{Numeral, IsNumeral}
 use Rattle.m_number.specs.Text.{text_of, size_text, nonzero_text, large_text, codes_of}
-use Rattle.m_text.specs.Reading.{is_number_byte}
+use Rattle.m_text.specs.Front.{is_number_byte}
 use Rattle.std.specs.Char.{is_ascii_digit}
 use Rattle.std.specs.Prelude.{◌==◌, ◌||◌}
 

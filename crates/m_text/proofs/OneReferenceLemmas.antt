@@ -11,8 +11,8 @@ use Rattle.m_key.specs.Node.{Node, NodeSubscript, number, IsName, IsSubscript, s
 use Rattle.m_key.specs.Node.{string as text_node}
 use Rattle.m_text.specs.Grammar.{joined, Expression, bare, string, expression_text, expression_bytes, IsExpression}
 use Rattle.m_text.specs.Grammar.{reference_form, IsReferenceText}
-use Rattle.m_text.specs.Reading.{is_number_byte}
-use Rattle.m_text.specs.Standing.{StandsAt, IsEnded, ListStandsAt}
+use Rattle.m_text.specs.Front.{is_number_byte}
+use Rattle.m_text.specs.FrontSubscripts.{StandsAt, IsEnded, ListStandsAt}
 use Rattle.m_text.proofs.FoundLemmas.{pair_of}
 use Rattle.m_text.proofs.SubscriptLemmas.{First, first_of_list, bare_len, string_len, string_read_at}
 use Rattle.m_text.proofs.ReferenceLemmas.{tail_of, name_short, name_ended, same_front}
@@ -213,14 +213,14 @@ one_reference_lem one text a b h k =
     (λ (y : IsBareText text b). same_node a b (tail_of 94 94 a.name b.name (sym x.written ∙ y.written)) (x.none
     ∙ sym y.none))
     (λ (y : IsListText text b).
-    absurd (bare_no_list a b y.inside h.is_node.name k.is_node.name (tail_of 94 94 a.name (b.name
-    ++ 40 ∷ y.inside) (sym x.written ∙ y.written))))
+    absurd (bare_no_list a b y.inside h.is_node.name k.is_node.name
+    (tail_of 94 94 a.name (b.name ++ 40 ∷ y.inside) (sym x.written ∙ y.written))))
     (cases_from k.subscripts text b k.right k.written k.meant))
     (λ (x : IsListText text a).
     ⊎_elim
     (λ (y : IsBareText text b).
-    absurd (bare_no_list b a x.inside k.is_node.name h.is_node.name (tail_of 94 94 b.name (a.name
-    ++ 40 ∷ x.inside) (sym y.written ∙ x.written))))
+    absurd (bare_no_list b a x.inside k.is_node.name h.is_node.name
+    (tail_of 94 94 b.name (a.name ++ 40 ∷ x.inside) (sym y.written ∙ x.written))))
     (λ (y : IsListText text b).
     let whole : a.name ++ 40 ∷ x.inside ≡ b.name ++ 40 ∷ y.inside =
     tail_of 94 94 (a.name ++ 40 ∷ x.inside) (b.name ++ 40 ∷ y.inside) (sym x.written ∙ y.written) in

@@ -12,8 +12,8 @@ use Rattle.std.proofs.lemmas.Bool.{and_from}
 use Rattle.std.proofs.lemmas.Bool.{and_parts}
 use Rattle.m_text.specs.Grammar.{joined, Word, c, char, zch, zchar, word_text, code_value, IsCode, Piece, quoted, coded}
 use Rattle.m_text.specs.Grammar.{doubled, piece_text, piece_bytes, IsPiece}
-use Rattle.m_text.specs.Reading.{Found, leads, quoted_at, code_at, list_at, closed_by, codes_at, behind_word, piece_at}
-use Rattle.m_text.specs.Reading.{string_at}
+use Rattle.m_text.specs.Front.{Found, leads, quoted_at, code_at, list_at, closed_by, codes_at, behind_word, piece_at}
+use Rattle.m_text.specs.Front.{string_at}
 use Rattle.m_text.proofs.FoundLemmas.{pair_of}
 use Rattle.m_text.proofs.FrontLemmas.{heads, prefix-passes, prefix_len-append, behind_word-found}
 use Rattle.m_text.proofs.QuotedLemmas.{quoted_at-found, quoted_at-again}
@@ -65,8 +65,8 @@ code_at-again digits rest right ended =
     let text : List ℕ = digits ++ rest in
     let n : ℕ = length digits in
     let F : ℕ → Option Found =
-    λ k. cond (leb 1 k
-    && (leb k 3 && leb (code_value (take k text)) 255)) (Some (one_byte (take k text), drop k text)) None in
+    λ k. cond (leb 1 k && (leb k 3 && leb (code_value (take k text)) 255)) (Some (one_byte (take k text), drop k text))
+    None in
     let G : List ℕ → List ℕ → Option Found =
     λ t d. cond (leb 1 n && (leb n 3 && leb (code_value t) 255)) (Some (one_byte t, d)) None in
     let test =
@@ -101,8 +101,8 @@ code_at-few text n e l = counted text n e
 pub code_at-many : (text : List ℕ) (n : ℕ) → n ≡ prefix_len is_ascii_digit text → 3 < n → code_at text ≡ None
 unfolding code_tested
 code_at-many text n e l = counted text n e
-    ∙ cond-false _ _ None (and_no (leb 1 n) _ (ap (λ (b : Bool). b
-    && leb (code_value (take n text)) 255) (above n 3 l)))
+    ∙ cond-false _ _ None
+    (and_no (leb 1 n) _ (ap (λ (b : Bool). b && leb (code_value (take n text)) 255) (above n 3 l)))
 
 pub code_at-great : (text : List ℕ) (n : ℕ) → n ≡ prefix_len is_ascii_digit text → 255 < code_value (take n text)
     → code_at text ≡ None

@@ -3,7 +3,7 @@ use Rattle.std.proofs.Common.{◌≡◌, ℕ, zero, suc, ◌<◌, Bool, true, fa
 use Rattle.std.proofs.Common.{drop, flat_map, arith, add-one, None, Some, refl, sym, ap, ◌∙◌, ⊎_elim}
 use Rattle.std.proofs.lemmas.Bool.{eqb-true, false_from_ne_true, cond-true, cases_Bool, cond-false}
 use Rattle.m_text.specs.Grammar.{doubled}
-use Rattle.m_text.specs.Reading.{with_front, leads, quoted_at}
+use Rattle.m_text.specs.Front.{with_front, leads, quoted_at}
 use Rattle.m_text.proofs.FoundLemmas.{pair_of, fronted, with_front-nil, with_front-with_front}
 use Rattle.std.proofs.lemmas.List.{append-nil, drop-drop}
 

@@ -10,8 +10,8 @@ use Rattle.std.proofs.lemmas.List.Elements.{recursion_from_All}
 use Rattle.m_key.specs.Node.{Node, NodeSubscript, IsName, IsNode, IsSubscript, spelled}
 use Rattle.m_text.specs.Grammar.{joined, Expression, expression_text, expression_bytes, IsExpression, reference_form}
 use Rattle.m_text.specs.Grammar.{IsReferenceText}
-use Rattle.m_text.specs.Reading.{leads}
-use Rattle.m_text.specs.Standing.{ListStandsAt, longest_name}
+use Rattle.m_text.specs.Front.{leads}
+use Rattle.m_text.specs.FrontSubscripts.{ListStandsAt, longest_name}
 use Rattle.m_text.proofs.FrontLemmas.{prefix_len-append, prefix_len-yes, prefix_len-no}
 
 -- names

@@ -6,7 +6,7 @@ use Rattle.std.specs.List.{AllByRecursion}
 use Rattle.std.proofs.lemmas.List.{append_assoc, append-nil}
 use Rattle.std.proofs.lemmas.Bool.{eqb-true, eq-eqb, cond-true, cases_Bool, cond-false}
 use Rattle.m_text.specs.Grammar.{joined}
-use Rattle.m_text.specs.Reading.{Found, with_front, leads, continued, separated_at, list_at}
+use Rattle.m_text.specs.Front.{Found, with_front, leads, continued, separated_at, list_at}
 use Rattle.m_text.proofs.FoundLemmas.{pair_of, fronted, with_front-with_front}
 
 module _ (item : List ℕ → Option Found) (by : ℕ) where

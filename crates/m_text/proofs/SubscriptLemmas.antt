@@ -11,8 +11,8 @@ use Rattle.m_key.specs.Node.{NodeSubscript, number, IsSubscript, spelled}
 use Rattle.m_key.specs.Node.{string as text_node}
 use Rattle.m_text.specs.Grammar.{joined, Piece, piece_text, piece_bytes, IsPiece, Expression, bare, string}
 use Rattle.m_text.specs.Grammar.{expression_text, expression_bytes, IsExpression}
-use Rattle.m_text.specs.Reading.{Found, leads, string_at, is_number_byte}
-use Rattle.m_text.specs.Standing.{StandsAt, IsEnded, ListStandsAt, ListStandsAfter}
+use Rattle.m_text.specs.Front.{Found, leads, string_at, is_number_byte}
+use Rattle.m_text.specs.FrontSubscripts.{StandsAt, IsEnded, ListStandsAt, ListStandsAfter}
 use Rattle.m_text.proofs.FoundLemmas.{pair_of}
 use Rattle.m_text.proofs.FrontLemmas.{heads, prefix_len-append, prefix_len-no}
 use Rattle.m_text.proofs.PieceLemmas.{string_at-found, string_at-again}
@@ -116,9 +116,8 @@ pub string_len : (pieces : List Piece) (rest : List ℕ) → 0 < length pieces
 string_len [] rest l = absurd (omega (arith, l))
 string_len (first ∷ others) rest l =
     let tail : List ℕ = flat_map (λ (next : List ℕ). 95 ∷ next) (map piece_text others) in
-    prefix_none ((piece_text first ++ tail)
-    ++ rest) (ap (heads is_number_byte) (append_assoc (piece_text first) tail rest)
-    ∙ piece_head first (tail ++ rest))
+    prefix_none ((piece_text first ++ tail) ++ rest)
+    (ap (heads is_number_byte) (append_assoc (piece_text first) tail rest) ∙ piece_head first (tail ++ rest))
 
 string_again : (pieces : List Piece) (rest : List ℕ) → 0 < length pieces → AllByRecursion IsPiece pieces → IsEnded rest
     → string_at (joined 95 (map piece_text pieces) ++ rest) ≡ Some (flat_map piece_bytes pieces, rest)

@@ -12,7 +12,7 @@ use Rattle.m_number.specs.Numeral.{Numeral, IsNumeral}
 use Rattle.m_number.specs.Text.{text_of}
 use Rattle.m_text.specs.Grammar.{joined, c, char, zch, zchar, Piece, quoted, coded, piece_text, piece_bytes, IsPiece}
 use Rattle.m_text.specs.Grammar.{Expression, bare, string, expression_text, expression_bytes, IsExpression, IsValueText}
-use Rattle.m_text.specs.Reading.{Found, with_front, string_at, is_number_byte}
+use Rattle.m_text.specs.Front.{Found, with_front, string_at, is_number_byte}
 use Rattle.m_text.proofs.FoundLemmas.{pair_of, with_front-nil}
 use Rattle.m_text.proofs.FrontLemmas.{heads}
 use Rattle.m_text.proofs.PieceLemmas.{string_at-found, string_at-again}

@@ -52,9 +52,8 @@ three_digits b l =
     record {
       right = record {
         decimal =
-            ap (λ (t : Bool). t
-            && (is_ascii_digit (48 + b / 10 % 10)
-            && (is_ascii_digit (48 + b % 10) && true))) (digit_pass (b / 100) (omega arith))
+            ap (λ (t : Bool). t && (is_ascii_digit (48 + b / 10 % 10) && (is_ascii_digit (48 + b % 10) && true)))
+            (digit_pass (b / 100) (omega arith))
             ∙ ap (λ (t : Bool). t && (is_ascii_digit (48 + b % 10) && true)) (digit_pass (b / 10 % 10) (omega arith))
             ∙ ap (λ (t : Bool). t && true) (digit_pass (b % 10) (omega arith));
         least = omega arith;

@@ -3,5 +3,5 @@ pub use Rattle.m_key.specs.Globals
 pub mod Grammar
 pub mod Written
 pub mod Extract
-pub mod Reading
-pub mod Standing
+pub mod Front
+pub mod FrontSubscripts

@@ -2,7 +2,7 @@ ghost use Rattle.std.specs.Prelude.{◌≡◌, ◌+◌, ◌≤◌, ◌<◌, leng
 ghost use Rattle.std.specs.Char.{is_ascii_digit};
 ghost use Rattle.std.specs.List.{prefix_len};
 ghost use Rattle.m_text.specs.Grammar.{code_value};
-ghost use Rattle.m_text.specs.Reading.{Appends, quoted_at, code_at, codes_at, behind_word, piece_at, string_at};
+ghost use Rattle.m_text.specs.Front.{Appends, quoted_at, code_at, codes_at, behind_word, piece_at, string_at};
 
 use memchr::memchr;
 use std::alloc::AllocError;
@@ -38,7 +38,8 @@ fn read_piece<'a>(text: &'a [u8], out: &mut Vec<u8>) -> Result<Option<&'a [u8]>,
 
 /// Takes the bytes in quotes, behind the first quote.
 fn read_quoted<'a>(text: &'a [u8], out: &mut Vec<u8>) -> Result<Option<&'a [u8]>, AllocError>
-    ensures { IfOk result (λ o. Appends out.old.items out.new.items (option_map (λ r. r.now) o) (quoted_at false text.now)) }
+    ensures { IfOk result (λ o.
+        Appends out.old.items out.new.items (option_map (λ r. r.now) o) (quoted_at false text.now)) }
 {
     let mut rest = text;
     while let Some(at) = memchr(b'"', rest) {

@@ -4,7 +4,7 @@ ghost use Rattle.std.specs.List.{AllByRecursion, prefix_len};
 ghost use Rattle.m_key.specs.Node.{Node, NodeSubscript, IsName, IsSubscript};
 ghost use Rattle.m_key.specs.Reference.{name_bytes, node_subscript_of, node_of};
 ghost use Rattle.m_text.specs.Grammar.{IsReferenceText};
-ghost use Rattle.m_text.specs.Standing.{ListStandsAt, longest_name};
+ghost use Rattle.m_text.specs.FrontSubscripts.{ListStandsAt, longest_name};
 
 use crate::subscripts::read_subscripts;
 use m_key::{Name, Reference, Subscript, Subscripts, name_of};
@@ -16,7 +16,8 @@ pub fn read_reference(alloc: Global, text: &[u8]) -> Result<Option<(Reference, u
     ensures some { IfOk result (λ o. IfSome o (λ found. IsReferenceText (take found.1 text.now) (node_of found.0))) }
     ensures longest { IfOk result (λ o. IfSome o (λ found. (len : ℕ) (node : Node) →
         len ≤ length text.now → IsReferenceText (take len text.now) node → len ≤ found.1)) }
-    ensures none { IfOk result (λ o. IfNone o ((len : ℕ) (node : Node) → IsReferenceText (take len text.now) node → ⊥)) }
+    ensures none { IfOk result (λ o. IfNone o
+        ((len : ℕ) (node : Node) → IsReferenceText (take len text.now) node → ⊥)) }
 {
     let Some(behind) = text.strip_prefix(b"^") else {
         return Ok(None);
@@ -73,7 +74,8 @@ fn read_list(alloc: Global, text: &[u8]) -> Result<Option<(Vec<Subscript>, &[u8]
     ensures found { IfOk result (λ o. IfSome o (λ found. (inside : List ℕ) × (text.now ≡ 40 ∷ inside)
         × ListStandsAt inside (map node_subscript_of found.0.items) found.1.now)) }
     ensures only { IfOk result (λ o. IfSome o (λ found. (inside rest : List ℕ) (ss : List NodeSubscript) →
-        AllByRecursion IsSubscript ss → length ss ≤ 31 → text.now ≡ 40 ∷ inside → ListStandsAt inside ss rest → rest ≡ found.1.now)) }
+        AllByRecursion IsSubscript ss → length ss ≤ 31 → text.now ≡ 40 ∷ inside → ListStandsAt inside ss rest
+        → rest ≡ found.1.now)) }
     ensures none { IfOk result (λ o. IfNone o ((inside rest : List ℕ) (ss : List NodeSubscript) →
         AllByRecursion IsSubscript ss → length ss ≤ 31 → text.now ≡ 40 ∷ inside → ListStandsAt inside ss rest → ⊥)) }
 {

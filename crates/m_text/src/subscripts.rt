@@ -2,8 +2,8 @@ ghost use Rattle.std.specs.Prelude.{◌≡◌, ◌≤◌, ℕ, List, length, map
 ghost use Rattle.std.specs.List.{prefix_len, AllByRecursion};
 ghost use Rattle.m_key.specs.Node.{NodeSubscript, IsSubscript};
 ghost use Rattle.m_key.specs.Reference.{node_subscript_of};
-ghost use Rattle.m_text.specs.Reading.{is_number_byte};
-ghost use Rattle.m_text.specs.Standing.{StandsAt, IsEnded, ListStandsAt};
+ghost use Rattle.m_text.specs.Front.{is_number_byte};
+ghost use Rattle.m_text.specs.FrontSubscripts.{StandsAt, IsEnded, ListStandsAt};
 
 use crate::reading::read_string;
 use m_key::{SUBSCRIPT_LIMIT, Subscript, subscript_of};

@@ -13,14 +13,32 @@ fn host(alloc: Global, failing: &[u64]) -> Result<MemHost, AllocError> {
     Ok(MemHost::new(alloc, db, images, failing.to_vec(alloc)?))
 }
 
+// A test looks at answers alone. Calls without a contract keep its proof small.
+
+fn len<H: Host>(host: &mut H, file: FileNo) -> Result<u64, HostFailed> {
+    host.len(file)
+}
+
+fn read<H: Host>(host: &mut H, file: FileNo, at: u64, out: &mut [u8]) -> Result<usize, HostFailed> {
+    host.read(file, at, out)
+}
+
+fn say<H: Host>(host: &mut H, bytes: &[u8]) -> Result<(), HostFailed> {
+    host.say(bytes)
+}
+
+fn take(source: &mut MemSource, out: &mut [u8; 3]) -> Result<usize, SourceFailed> {
+    source.take(out)
+}
+
 #[test]
 fn tells_all(rt: HostRuntime) -> Result<(), Fail> {
     let mut host = host(rt.alloc(), &[])?;
     let mut out = [b'.'; 4];
-    assert_eq!(rt; host.len(FileNo::Db), Ok(6));
-    assert_eq!(rt; host.read(FileNo::Images, 1, &mut out), Ok(2));
+    assert_eq!(rt; len(&mut host, FileNo::Db), Ok(6));
+    assert_eq!(rt; read(&mut host, FileNo::Images, 1, &mut out), Ok(2));
     assert_eq!(rt; out, *b"ld..");
-    assert_eq!(rt; host.say(b"a line\n"), Ok(()));
+    assert_eq!(rt; say(&mut host, b"a line\n"), Ok(()));
     let (db, images, said) = host.parts();
     assert_eq!(rt; db, DB);
     assert_eq!(rt; images, IMAGES);
@@ -48,11 +66,11 @@ fn surely_tells_all(rt: HostRuntime) -> Result<(), Fail> {
     let alloc = rt.alloc();
     let mut host = SureHost::new(alloc, DB.to_vec(alloc)?, IMAGES.to_vec(alloc)?);
     let mut out = [b'.'; 4];
-    assert_eq!(rt; host.len(FileNo::Images), Ok(3));
-    assert_eq!(rt; host.read(FileNo::Db, 0, &mut out), Ok(4));
+    assert_eq!(rt; len(&mut host, FileNo::Images), Ok(3));
+    assert_eq!(rt; read(&mut host, FileNo::Db, 0, &mut out), Ok(4));
     assert_eq!(rt; out, *b"bloc");
-    assert_eq!(rt; host.say(b"a"), Ok(()));
-    assert_eq!(rt; host.say(b"b"), Ok(()));
+    assert_eq!(rt; say(&mut host, b"a"), Ok(()));
+    assert_eq!(rt; say(&mut host, b"b"), Ok(()));
     assert_eq!(rt; host.parts().2, b"ab".as_slice());
     assert_eq!(rt; host.calls().len(), 4);
     assert_eq!(rt; host.starved(), 0);
@@ -72,7 +90,11 @@ fn reads_to_the_end(rt: HostRuntime) -> Result<(), Fail> {
         ("as far as can be", u64::MAX, 0),
     ] {
         let mut out = [b'.'; 4];
-        assert_eq!(rt; host.read(FileNo::Db, at, &mut out), Ok(want), "{label}");
+        assert_eq!(rt;
+            read(&mut host, FileNo::Db, at, &mut out),
+            Ok(want),
+            "{label}"
+        );
     }
     Ok(())
 }
@@ -81,13 +103,13 @@ fn reads_to_the_end(rt: HostRuntime) -> Result<(), Fail> {
 fn fails_the_listed_calls(rt: HostRuntime) -> Result<(), Fail> {
     let mut host = host(rt.alloc(), &[2, 3, 5, 0])?;
     let mut out = [b'.'; 2];
-    assert_eq!(rt; host.say(b"a"), Ok(()));
-    assert_eq!(rt; host.say(b"b"), Err(HostFailed));
-    assert_eq!(rt; host.read(FileNo::Db, 0, &mut out), Err(HostFailed));
+    assert_eq!(rt; say(&mut host, b"a"), Ok(()));
+    assert_eq!(rt; say(&mut host, b"b"), Err(HostFailed));
+    assert_eq!(rt; read(&mut host, FileNo::Db, 0, &mut out), Err(HostFailed));
     assert_eq!(rt; out, *b"..");
-    assert_eq!(rt; host.read(FileNo::Db, 0, &mut out), Ok(2));
-    assert_eq!(rt; host.len(FileNo::Db), Err(HostFailed));
-    assert_eq!(rt; host.say(b"c"), Ok(()));
+    assert_eq!(rt; read(&mut host, FileNo::Db, 0, &mut out), Ok(2));
+    assert_eq!(rt; len(&mut host, FileNo::Db), Err(HostFailed));
+    assert_eq!(rt; say(&mut host, b"c"), Ok(()));
     assert_eq!(rt; host.parts().2, b"ac".as_slice());
     assert_eq!(rt; host.calls().len(), 6);
     assert_eq!(rt; host.starved(), 0);
@@ -100,10 +122,10 @@ fn burns_a_fuse(rt: HostRuntime) -> Result<(), Fail> {
     let mut out = [b'.'; 2];
     host.fuse(0);
     host.fuse(2);
-    assert_eq!(rt; host.read(FileNo::Db, 0, &mut out), Ok(2));
-    assert_eq!(rt; host.read(FileNo::Images, 0, &mut out), Ok(2));
-    assert_eq!(rt; host.read(FileNo::Db, 0, &mut out), Err(HostFailed));
-    assert_eq!(rt; host.say(b"a"), Err(HostFailed));
+    assert_eq!(rt; read(&mut host, FileNo::Db, 0, &mut out), Ok(2));
+    assert_eq!(rt; read(&mut host, FileNo::Images, 0, &mut out), Ok(2));
+    assert_eq!(rt; read(&mut host, FileNo::Db, 0, &mut out), Err(HostFailed));
+    assert_eq!(rt; say(&mut host, b"a"), Err(HostFailed));
     assert_eq!(rt; host.parts().2, b"".as_slice());
     assert_eq!(rt; host.reads(), 1);
     Ok(())
@@ -114,11 +136,11 @@ fn gives_pieces(rt: HostRuntime) -> Result<(), Fail> {
     let alloc = rt.alloc();
     let mut source = MemSource::new(b"ab".to_vec(alloc)?, 1, [2].to_vec(alloc)?);
     let mut out = [b'.'; 3];
-    assert_eq!(rt; source.take(&mut out), Ok(1));
+    assert_eq!(rt; take(&mut source, &mut out), Ok(1));
     assert_eq!(rt; out, *b"a..");
-    assert_eq!(rt; source.take(&mut out), Err(SourceFailed));
-    assert_eq!(rt; source.take(&mut out), Ok(1));
+    assert_eq!(rt; take(&mut source, &mut out), Err(SourceFailed));
+    assert_eq!(rt; take(&mut source, &mut out), Ok(1));
     assert_eq!(rt; out, *b"b..");
-    assert_eq!(rt; source.take(&mut out), Ok(0));
+    assert_eq!(rt; take(&mut source, &mut out), Ok(0));
     Ok(())
 }

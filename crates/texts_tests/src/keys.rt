@@ -25,17 +25,13 @@ fn reference(alloc: Global, name: &[u8], texts: &[&[u8]]) -> Result<Reference, F
 
 #[test]
 fn writes_and_reads_keys(rt: HostRuntime) -> Result<(), Fail> {
-    let rows: [(&str, &[u8], &[&[u8]], &[u8]); 7] = [
+    let rows: [(&str, &[u8], &[&[u8]], &[u8]); 8] = [
         ("a global", b"A", &[], b"A\0\0"),
         ("zero", b"%Z9", &[b"0"], b"%Z9\0\x80\0\0"),
         ("a number", b"A", &[b"1"], b"A\0\xBF\x11\0\0"),
         ("a string", b"A", &[b"01"], b"A\0\xFF01\0\0"),
-        (
-            "escapes",
-            b"A",
-            &[b"\0\x01"],
-            b"A\0\xFF\x01\x01\x01\x02\0\0",
-        ),
+        ("a byte 0", b"A", &[b"\0"], b"A\0\xFF\x01\x01\0\0"),
+        ("a byte 1", b"A", &[b"\x01"], b"A\0\xFF\x01\x02\0\0"),
         ("below zero", b"A", &[b"-10.1"], b"A\0\x3F\xEE\xEE\xFF\0\0"),
         ("two", b"A", &[b"123", b"x"], b"A\0\xC1\x13\x31\0\xFFx\0\0"),
     ];
@@ -72,22 +68,17 @@ fn reads_no_reference_from_other_bytes(rt: HostRuntime) -> Result<(), Fail> {
 
 #[test]
 fn orders_references(rt: HostRuntime) -> Result<(), Fail> {
-    let rising: [(&[u8], &[&[u8]]); 9] = [
-        (b"A", &[]),
-        (b"A", &[b"-10.1"]),
-        (b"A", &[b"-10"]),
-        (b"A", &[b"0"]),
-        (b"A", &[b"1"]),
-        (b"A", &[b"10"]),
-        (b"A", &[b"01"]),
-        (b"A", &[b"01", b"1"]),
-        (b"AB", &[]),
-    ];
-    for (i, (name, texts)) in rising.into_iter().enumerate() {
-        let a = reference(rt.alloc(), name, texts)?;
-        for (j, (name, texts)) in rising.into_iter().enumerate() {
-            let b = reference(rt.alloc(), name, texts)?;
-            assert_eq!(rt; compare(&a, &b), i.cmp(&j), "{i} and {j}");
+    let texts: [&[u8]; 6] = [b"-10.1", b"-10", b"0", b"1", b"10", b"01"];
+    let mut rising = Vec::new(rt.alloc());
+    rising.push(reference(rt.alloc(), b"A", &[])?)?;
+    for text in texts {
+        rising.push(reference(rt.alloc(), b"A", &[text])?)?;
+    }
+    rising.push(reference(rt.alloc(), b"A", &[b"01", b"1"])?)?;
+    rising.push(reference(rt.alloc(), b"AB", &[])?)?;
+    for (i, a) in rising.iter().enumerate() {
+        for (j, b) in rising.iter().enumerate() {
+            assert_eq!(rt; compare(a, b), i.cmp(&j), "{i} and {j}");
         }
     }
     Ok(())

@@ -1,6 +1,9 @@
 use m_number::{decode, encode, is_encoded, parse_canonical, print};
 use std::test::Fail;
 
+/// An exponent and ten pairs of digits, one pair more than there may be.
+const PAIRS: [u8; 11] = [0xBF, 18, 18, 18, 18, 18, 18, 18, 18, 18, 18];
+
 #[test]
 fn takes_only_canonical_texts(rt: HostRuntime) {
     let rows = [
@@ -85,21 +88,9 @@ fn tells_which_bytes_are_a_numbers(rt: HostRuntime) {
         ("above it", &[0x11, 0xEE, 0xFF], false),
         ("a negative without its end", &[0x40, 0xEE], false),
         ("a negative without digits", &[0x40, 0xFF], false),
-        (
-            "a negative of a last pair 00",
-            &[0x40, 0xEE, 0xFE, 0xFF],
-            false,
-        ),
-        (
-            "18 digits",
-            &[0xBF, 18, 18, 18, 18, 18, 18, 18, 18, 18],
-            true,
-        ),
-        (
-            "20 digits",
-            &[0xBF, 18, 18, 18, 18, 18, 18, 18, 18, 18, 18],
-            false,
-        ),
+        ("a last 00 below zero", &[64, 0xEE, 0xFE, 0xFF], false),
+        ("18 digits", &PAIRS[..10], true),
+        ("20 digits", &PAIRS, false),
     ];
     for (label, bytes, is) in rows {
         assert_eq!(rt; is_encoded(bytes), is, "{label}");

@@ -2,26 +2,32 @@ use m_key::{
     end_in, ends_in_zero, has_subscripts, is_escaped_text, join_key, key_from, name_part,
     shared_len, subscript_count, subscript_parts,
 };
+use std::test::Fail;
 
 #[test]
-fn takes_keys_apart(rt: HostRuntime) {
-    let rows: [(&str, &[u8], &[u8], &[&[u8]]); 7] = [
-        ("nothing", b"", b"", &[]),
-        ("a name without an end", b"AB", b"AB", &[]),
-        ("a global", b"A\0\0", b"A", &[]),
-        ("no name", b"\0\0", b"", &[]),
-        ("a subscript", b"A\0\xBF\x11\0\0", b"A", &[b"\xBF\x11"]),
-        ("two", b"A\0\x80\0\xFFx\0\0", b"A", &[b"\x80", b"\xFFx"]),
-        ("an empty one", b"A\0\0\0", b"A", &[b""]),
+fn takes_keys_apart(rt: HostRuntime) -> Result<(), Fail> {
+    // The last field has the subscripts, each with a '/' behind it.
+    let rows: [(&str, &[u8], &[u8], usize, &[u8]); 7] = [
+        ("nothing", b"", b"", 0, b""),
+        ("a name without an end", b"AB", b"AB", 0, b""),
+        ("a global", b"A\0\0", b"A", 0, b""),
+        ("no name", b"\0\0", b"", 0, b""),
+        ("a subscript", b"A\0\xBF\x11\0\0", b"A", 1, b"\xBF\x11/"),
+        ("two", b"A\0\x80\0\xFFx\0\0", b"A", 2, b"\x80/\xFFx/"),
+        ("an empty one", b"A\0\0\0", b"A", 1, b"/"),
     ];
-    for (label, key, name, parts) in rows {
+    for (label, key, name, count, parts) in rows {
         assert_eq!(rt; name_part(key), name, "{label}");
-        assert_eq!(rt; subscript_count(key), parts.len(), "{label}");
-        assert_eq!(rt; has_subscripts(key), !parts.is_empty(), "{label}");
-        for (i, part) in subscript_parts(key).enumerate() {
-            assert_eq!(rt; Some(&part), parts.get(i), "{label}");
+        assert_eq!(rt; subscript_count(key), count, "{label}");
+        assert_eq!(rt; has_subscripts(key), count > 0, "{label}");
+        let mut joined = Vec::new(rt.alloc());
+        for part in subscript_parts(key) {
+            joined.extend_from_slice(part)?;
+            joined.push(b'/')?;
         }
+        assert_eq!(rt; joined.as_slice(), parts, "{label}");
     }
+    Ok(())
 }
 
 #[test]

@@ -1,6 +1,9 @@
 use m_text::{print_reference, print_value, read_reference, read_value};
 use std::test::Fail;
 
+/// A string, and codes behind each of the words but `$C`.
+const WORDS: &[u8] = b"\"a\"_$CHAR(66)_$ZCH(255,7)_$ZCHAR(007)";
+
 #[test]
 fn writes_and_reads_values(rt: HostRuntime) -> Result<(), Fail> {
     let rows: [(&str, &[u8], &[u8]); 6] = [
@@ -14,11 +17,8 @@ fn writes_and_reads_values(rt: HostRuntime) -> Result<(), Fail> {
     for (label, value, text) in rows {
         let mut out = b"x".to_vec(rt.alloc())?;
         print_value(value, &mut out)?;
-        assert_eq!(rt;
-            out.as_slice().split_first(),
-            Some((&b'x', text)),
-            "{label}"
-        );
+        assert_eq!(rt; out[0], b'x', "{label}");
+        assert_eq!(rt; &out[1..], text, "{label}");
         let read = read_value(rt.alloc(), text)?.ok_or("no value")?;
         assert_eq!(rt; read.as_slice(), value, "{label}");
     }
@@ -32,11 +32,7 @@ fn reads_texts_of_values(rt: HostRuntime) -> Result<(), Fail> {
         ("no canonical number", b"01", None),
         ("nothing", b"", None),
         ("letters", b"abc", None),
-        (
-            "all words",
-            b"\"a\"_$CHAR(66)_$ZCH(255,7)_$ZCHAR(007)",
-            Some(b"aB\xFF\x07\x07"),
-        ),
+        ("all words", WORDS, Some(b"aB\xFF\x07\x07")),
         ("two empty ones", b"\"\"_\"\"", Some(b"")),
         ("a quote at the end", b"\"a\"\"\"", Some(b"a\"")),
         ("an open quote", b"\"a", None),

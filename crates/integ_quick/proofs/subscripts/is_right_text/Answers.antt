@@ -11,4 +11,5 @@ returns-then-is_word c =
 pub returns-else-is_word : goal.returns-else-is_word
 returns-else-is_word c =
     OnTrue_from c.is_escaped_text.result _
-    (λ t. subscript_fault-escaped c.args.bytes.now (some_from _ _ c.is_empty.ensures c.if-is_empty.false) (c.is_escaped_text.ensures.0 t))
+    (λ t. subscript_fault-escaped c.args.bytes.now (some_from _ _ c.is_empty.ensures c.if-is_empty.false)
+        (c.is_escaped_text.ensures.0 t))

@@ -7,9 +7,8 @@ pub returns-in_err-push_decimals-clause-err : goal.returns-in_err-push_decimals-
 returns-in_err-push_decimals-clause-err c =
     let old : List ℕ = c.args.out.now.items in
     on_err {P = take (length old) c.push_decimals.new.out.items ≡ old} c.from_residual-in_err-push_decimals.result
-    (begins_pushed old (old
-    ++ 36 ∷ 67 ∷ 40 ∷ []) c.push_decimal.new.out.items c.push_decimals.new.out.items _
-    (begins_append old (36 ∷ 67 ∷ 40 ∷ [])) (c.in_ok-push_decimal.ensures.ok
-    ∙ ap (λ (t : List ℕ). t
-    ++ decimal (get_or c.args.run.now 0 0)) c.in_ok-extend_from_slice.ensures.items)
+    (begins_pushed old (old ++ 36 ∷ 67 ∷ 40 ∷ []) c.push_decimal.new.out.items c.push_decimals.new.out.items _
+    (begins_append old (36 ∷ 67 ∷ 40 ∷ []))
+    (c.in_ok-push_decimal.ensures.ok
+    ∙ ap (λ (t : List ℕ). t ++ decimal (get_or c.args.run.now 0 0)) c.in_ok-extend_from_slice.ensures.items)
     c.in_err-push_decimals.ensures.err)

@@ -33,6 +33,6 @@ returns-clause-ok c =
     let rest : List ℕ = c.loop-at.rest.now in
     c.in_ok-push-2.ensures.items
     ∙ ap (λ (t : List ℕ). t ++ 34 ∷ []) (c.in_ok-extend_from_slice-3.ensures.items
-    ∙ ap (λ (t : List ℕ). c.loop-at.out.items
-    ++ t) (sym (doubled_plain rest (λ k l. c.in_default.ensures k (omega arith) l))) ∙ c.loop-at.invariant.text)
+    ∙ ap (λ (t : List ℕ). c.loop-at.out.items ++ t)
+    (sym (doubled_plain rest (λ k l. c.in_default.ensures k (omega arith) l))) ∙ c.loop-at.invariant.text)
     ∙ append_assoc old (34 ∷ flat_map doubled c.args.run.now) (34 ∷ [])

@@ -1,5 +1,5 @@
 use Rattle.std.proofs.Common.{◌∷◌, [], ◌++◌, List, ℕ, Some, sym, ap, ◌∙◌}
-use Rattle.m_text.specs.Reading.{with_front, code_at}
+use Rattle.m_text.specs.Front.{with_front, code_at}
 use Rattle.m_text.proofs.PieceLemmas.{code_at-shortens}
 use Rattle.m_text.proofs.SeparatedLemmas.{list_step}
 use Rattle.m_text.proofs.reading.read_codes.Goals as goal

@@ -1,5 +1,5 @@
 use Rattle.std.proofs.Common.{◌≡◌, length}
-use Rattle.m_text.specs.Reading.{with_front, list_at, code_at}
+use Rattle.m_text.specs.Front.{with_front, list_at, code_at}
 use Rattle.m_text.proofs.reading.read_codes.Given as goal
 
 abbrev pub invariant-loop-code : goal.invariant-loop-code

@@ -1,6 +1,6 @@
 use Rattle.std.proofs.Common.{◌≡◌, ◌++◌, ◌-◌, List, ℕ, length, take, drop, Some, false, sym, ap, ◌∙◌, arith}
 use Rattle.std.proofs.lemmas.List.{take_rest}
-use Rattle.m_text.specs.Reading.{with_front, quoted_at}
+use Rattle.m_text.specs.Front.{with_front, quoted_at}
 use Rattle.m_text.proofs.FoundLemmas.{with_front-none}
 use Rattle.m_text.proofs.FrontLemmas.{no_front}
 use Rattle.m_text.proofs.QuotedLemmas.{quoted_ends, quoted_goes_on, quoted_at-none}

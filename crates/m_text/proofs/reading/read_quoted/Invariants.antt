@@ -1,5 +1,5 @@
 use Rattle.std.proofs.Common.{◌≡◌, length, false}
-use Rattle.m_text.specs.Reading.{with_front, quoted_at}
+use Rattle.m_text.specs.Front.{with_front, quoted_at}
 use Rattle.m_text.proofs.reading.read_quoted.Given as goal
 
 abbrev pub invariant-loop-at : goal.invariant-loop-at

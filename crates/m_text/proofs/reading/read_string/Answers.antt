@@ -1,5 +1,5 @@
 use Rattle.std.proofs.Common.{List, ℕ, Some, sym, ap, ◌∙◌}
-use Rattle.m_text.specs.Reading.{piece_at}
+use Rattle.m_text.specs.Front.{piece_at}
 use Rattle.m_text.proofs.PieceLemmas.{piece_at-shortens}
 use Rattle.m_text.proofs.SeparatedLemmas.{list_step, item_shorter}
 use Rattle.m_text.proofs.reading.read_string.Goals as goal

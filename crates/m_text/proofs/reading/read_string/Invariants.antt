@@ -1,5 +1,5 @@
 use Rattle.std.proofs.Common.{◌≡◌, length}
-use Rattle.m_text.specs.Reading.{with_front, string_at}
+use Rattle.m_text.specs.Front.{with_front, string_at}
 use Rattle.m_text.proofs.reading.read_string.Given as goal
 
 abbrev pub invariant-loop-after : goal.invariant-loop-after

@@ -1,5 +1,5 @@
 use Rattle.std.proofs.Common.{◌≡◌, List, ℕ, sym, ◌∙◌, subst}
-use Rattle.m_text.specs.Standing.{ListStandsAt}
+use Rattle.m_text.specs.FrontSubscripts.{ListStandsAt}
 use Rattle.m_text.proofs.ReferenceLemmas.{tail_of}
 use Rattle.m_text.proofs.reference.read_list.Goals as goal
 use Rattle.m_number.proofs.TextLemmas.{front_taken}

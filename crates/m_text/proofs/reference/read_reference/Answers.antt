@@ -2,7 +2,7 @@ use Rattle.std.proofs.Common.{◌<◌, List, ℕ, length, map, sym, ap, ◌∙�
 use Rattle.m_key.specs.Node.{NodeSubscript}
 use Rattle.m_key.specs.Reference.{node_subscript_of, node_of, is_node, name_bytes}
 use Rattle.m_key.specs.declared.reference.Reference.{Reference}
-use Rattle.m_text.specs.Standing.{ListStandsAt}
+use Rattle.m_text.specs.FrontSubscripts.{ListStandsAt}
 use Rattle.m_text.proofs.ReferenceLemmas.{no_reference, bare_made, list_made, longest_bare, longest_list, list_shorter}
 use Rattle.m_text.proofs.reference.read_reference.Goals as goal
 use Rattle.m_number.proofs.TextLemmas.{front_taken}

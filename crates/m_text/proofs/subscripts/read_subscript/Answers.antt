@@ -5,7 +5,7 @@ use Rattle.std.proofs.lemmas.Bool.{eqb-true}
 use Rattle.m_number.specs.Number.{numeral_of}
 use Rattle.m_key.specs.Reference.{node_subscript_of}
 use Rattle.m_key.specs.Node.{spelled}
-use Rattle.m_text.specs.Reading.{string_at, is_number_byte}
+use Rattle.m_text.specs.Front.{string_at, is_number_byte}
 use Rattle.m_text.proofs.ValueLemmas.{string_whole}
 use Rattle.m_text.proofs.SubscriptLemmas.{number_at, number_stands, string_read_at, string_stands, none_read}
 use Rattle.m_text.proofs.SubscriptLemmas.{empty_read, same_rest}

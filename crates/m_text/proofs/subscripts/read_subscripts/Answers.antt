@@ -2,7 +2,7 @@ use Rattle.std.proofs.Common.{◌≡◌, ◌+◌, ◌≤◌, ◌++◌, ◌∷◌
 use Rattle.std.proofs.lemmas.List.{append_assoc, map_push}
 use Rattle.m_key.specs.Node.{NodeSubscript}
 use Rattle.m_key.specs.Reference.{node_subscript_of}
-use Rattle.m_text.specs.Standing.{StandsAt, ListStandsAt}
+use Rattle.m_text.specs.FrontSubscripts.{StandsAt, ListStandsAt}
 use Rattle.m_text.proofs.FrontLemmas.{no_front}
 use Rattle.m_text.proofs.SubscriptLemmas.{list_last, list_more, goes_step, goes_end, goes_stuck, goes_none, goes_full}
 use Rattle.m_text.proofs.subscripts.read_subscripts.Goals as goal

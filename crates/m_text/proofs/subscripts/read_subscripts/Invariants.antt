@@ -2,7 +2,7 @@ use Rattle.std.proofs.Common.{◌≡◌, ◌≤◌, ◌++◌, List, ℕ, length,
 use Rattle.std.specs.List.{AllByRecursion}
 use Rattle.m_key.specs.Node.{NodeSubscript, IsSubscript}
 use Rattle.m_key.specs.Reference.{node_subscript_of}
-use Rattle.m_text.specs.Standing.{ListStandsAt, ListStandsAfter}
+use Rattle.m_text.specs.FrontSubscripts.{ListStandsAt, ListStandsAfter}
 use Rattle.m_text.proofs.subscripts.read_subscripts.Given as goal
 
 abbrev pub invariant-loop-i : goal.invariant-loop-i

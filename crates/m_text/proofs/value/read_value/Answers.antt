@@ -3,7 +3,7 @@ use Rattle.std.proofs.lemmas.List.{nil_from_length}
 use Rattle.std.proofs.lemmas.Bool.{eqb-true, eqb-false}
 use Rattle.std.proofs.Common.{Some}
 use Rattle.m_text.specs.Grammar.{IsValueText}
-use Rattle.m_text.specs.Reading.{string_at}
+use Rattle.m_text.specs.Front.{string_at}
 use Rattle.m_text.proofs.ValueLemmas.{value_of_number, value_of_string, no_value, string_whole, no_string_none}
 use Rattle.m_text.proofs.ValueLemmas.{no_string_rest, canonical_some, canonical_none}
 use Rattle.m_text.proofs.value.read_value.Goals as goal

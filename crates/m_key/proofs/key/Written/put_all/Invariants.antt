@@ -1,5 +1,5 @@
 use Rattle.std.proofs.Common.{take}
-use Rattle.m_key.specs.Writing.{Appends}
+use Rattle.m_key.specs.Written.{Appends}
 use Rattle.m_key.proofs.key.Written.put_all.Given as goal
 
 -- the bytes so far are written

@@ -1,7 +1,7 @@
 use Rattle.std.proofs.Common.{take, flat_map}
 use Rattle.m_key.specs.Key.{ended}
 use Rattle.m_key.specs.Reference.{node_subscript_of}
-use Rattle.m_key.specs.Writing.{Appends}
+use Rattle.m_key.specs.Written.{Appends}
 use Rattle.m_key.proofs.key.Written.put_subscripts.Given as goal
 
 -- the subscripts so far are written

@@ -1,6 +1,6 @@
 use Rattle.std.proofs.Common.{take, flat_map}
 use Rattle.m_key.specs.Key.{escaped}
-use Rattle.m_key.specs.Writing.{Appends}
+use Rattle.m_key.specs.Written.{Appends}
 use Rattle.m_key.proofs.key.Written.put_text.Given as goal
 
 -- the bytes so far are written

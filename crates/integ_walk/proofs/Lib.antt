@@ -1,0 +1,10 @@
+pub mod AheadLemmas
+pub mod WalkLemmas
+pub mod MarkLemmas
+pub mod ProgressLemmas
+pub mod ChildLemmas
+pub mod UnitLemmas
+pub mod BitLemmas
+pub mod ResultLemmas
+pub mod StateLemmas
+pub mod FrameLemmas

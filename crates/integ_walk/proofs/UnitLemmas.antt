@@ -1,0 +1,54 @@
+-- The blocks of a file whose header can be read, as its units.
+use Rattle.std.proofs.Common.{◌≡◌, ℕ, ◌+◌, ◌-◌, ◌*◌, ◌<◌, ◌≤◌, ◌==◌, Bool, true, false, ◌||◌, List, [], ◌∷◌, length, take, drop, filter, find, Option, None, Some, inl, inr, refl, sym, ap, subst, ◌∙◌, arith, mul-le-mul_right, if◌then◌else◌}
+use Rattle.std.specs.List.{list_any}
+use Rattle.std.proofs.lemmas.Bool.{ltb-false, ne_eqb, cond-false}
+use Rattle.host_model.specs.Units.{IsUnit, block_length, unit_length, unit_place, unit_bytes}
+use Rattle.gds_header.specs.declared.header.Header.{Header}
+use Rattle.gds_header.specs.declared.kind.HeaderKind.TheVariants.{ShortFile}
+use Rattle.gds_header.specs.Fields.{u32_at, fields_of, image_length, place_of, block_of}
+use Rattle.gds_header.specs.Kinds.{ends, holds, kinds, header_faults, ending_kind}
+use Rattle.gds_law.proofs.RankLemmas.{through_any, none_there}
+
+none_found : {A : Type 0} (test : A → Bool) (xs : List A) → find test xs ≡ None → list_any test xs ≡ false
+none_found test [] h = refl
+none_found {A} test (x ∷ xs) h = by (test x) h (none_found test xs)
+  where
+    by : (t : Bool) → (if t then Some x else find test xs) ≡ None → (find test xs ≡ None → list_any test xs ≡ false) → (t || list_any test xs) ≡ false
+    by true e next = absurd (cc)
+    by false e next = next e
+
+-- Where no kind ends the reading of the header, the file isn't too short.
+pub whole_file : (file : List ℕ) → ending_kind file ≡ None → image_length file ≤ length file
+unfolding ending_kind header_faults
+whole_file file h =
+    let none = sym (through_any ends (filter (holds file) kinds)) ∙ none_found ends (header_faults file) h in
+    ltb-false (length file) (image_length file)
+    (none_there ends (holds file) kinds ShortFile none refl (inr (inr (inr (inr (inr (inr (inl refl))))))))
+
+same_length : (file : List ℕ) → block_length file ≡ (fields_of file).block_size
+unfolding u32_at
+same_length file = refl
+
+not_header : (block : ℕ) → (block + 1 == 0) ≡ false
+not_header block = ne_eqb (block + 1) 0 (λ e. omega (arith, e))
+
+length_at : (file : List ℕ) (block : ℕ) → unit_length file (block + 1) ≡ (fields_of file).block_size
+length_at file block = cond-false (block + 1 == 0) _ _ (not_header block) ∙ same_length file
+
+place_at : (file : List ℕ) (block : ℕ) → unit_place file (block + 1) ≡ place_of (fields_of file) block
+place_at file block =
+    let one : block + 1 - 1 ≡ block = omega arith in
+    cond-false (block + 1 == 0) _ _ (not_header block) ∙ (λ i. 8192 + one i * same_length file i)
+
+pub unit_is : (file : List ℕ) (block : ℕ) → unit_bytes file (block + 1) ≡ block_of file block
+unit_is file block = λ i. take (length_at file block i) (drop (place_at file block i) file)
+
+pub is_unit : (file : List ℕ) (block n : ℕ) → ending_kind file ≡ None → block < (fields_of file).total → n ≡ (fields_of file).block_size → IsUnit file (block + 1) n
+is_unit file block n h low same = record {
+  length_is = same ∙ sym (length_at file block);
+  within =
+      let size = (fields_of file).block_size in
+      let last : (block + 1) * size ≤ (fields_of file).total * size = mul-le-mul_right size (omega arith) in
+      let more : (block + 1) * size ≡ block * size + size = omega arith in
+      omega (arith, whole_file file h, place_at file block, same, last, more);
+}
