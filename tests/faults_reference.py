@@ -298,7 +298,8 @@ def tree_line(kind, block, offset, level, path):
 def tree_faults(file, h):
     """The lines of the trees, and the blocks that kept paths end in."""
     lines, taken = [], set()
-    # each path that goes on from a kept one, by its offsets: the least is asked next, so that all earlier ones are known
+    # each path that goes on from a kept one, by its offsets: the least is asked next, so that all earlier ones are
+    # known
     waiting = [((), (), Visit(1, None, None, None, None))]
     while waiting:
         offsets, path, visit = heapq.heappop(waiting)
@@ -358,8 +359,10 @@ def map_lines(file, h, taken):
 
 def faults(file):
     """The lines of a file's faults, in their order."""
+    if len(file) < HEADER:
+        return ["DBFSTHEAD file"]
     h = Header(file)
-    found, ended = through_ending(header_kinds(file, h), ENDING_OF_HEADER) if len(file) >= HEADER else (["DBFSTHEAD"], True)
+    found, ended = through_ending(header_kinds(file, h), ENDING_OF_HEADER)
     lines = [f"{kind} file" for kind in found]
     if ended:
         return lines

@@ -4,7 +4,18 @@ HEADER = 8192
 CLOSED = b"GDSBIMG1\0"
 
 
-def header(block=1024, total=100, free=95, extension=100, limit=1048576, key=64, value=400, number=2, label=b"GDSPROF1", master=b"\1"):
+def header(
+    block=1024,
+    total=100,
+    free=95,
+    extension=100,
+    limit=1048576,
+    key=64,
+    value=400,
+    number=2,
+    label=b"GDSPROF1",
+    master=b"\1",
+):
     """A file header; as it stands, one without a fault."""
     fields = b"".join(n.to_bytes(4, "little") for n in (block, total, free, extension, limit, key, value))
     front = label + fields + bytes(4) + number.to_bytes(8, "little")
@@ -13,7 +24,8 @@ def header(block=1024, total=100, free=95, extension=100, limit=1048576, key=64,
 
 def block(level, records, used=None, size=1024, number=1):
     """A block with these records, each a count and a body, and this transaction number."""
-    body = b"".join((4 + len(rest)).to_bytes(2, "little") + count.to_bytes(2, "little") + rest for count, rest in records)
+    sizes = [(4 + len(rest)).to_bytes(2, "little") for count, rest in records]
+    body = b"".join(of + count.to_bytes(2, "little") + rest for of, (count, rest) in zip(sizes, records))
     used = 16 + len(body) if used is None else used
     head = bytes([1, 0, 0, level]) + used.to_bytes(4, "little") + number.to_bytes(8, "little")
     return (head + body).ljust(size, b"\0")
@@ -60,9 +72,14 @@ def number(n):
     return data if n > 0 else bytes(255 - b for b in data) + b"\xff"
 
 
+def string(text):
+    """The bytes of a string as a subscript."""
+    return b"\xff" + text.replace(b"\1", b"\1\2").replace(b"\0", b"\1\1")
+
+
 def key(name, *subscripts):
     """The key of a node; a subscript is a whole number, or a string that is no number's text."""
-    parts = (number(s) if isinstance(s, int) else b"\xff" + s.replace(b"\1", b"\1\2").replace(b"\0", b"\1\1") for s in subscripts)
+    parts = (number(s) if isinstance(s, int) else string(s) for s in subscripts)
     return name + b"\0" + b"".join(part + b"\0" for part in parts) + b"\0"
 
 
@@ -113,7 +130,8 @@ class File:
         self.size, self.key, self.value, self.step = size, key, value, step
         self.fill = size if fill is None else fill
         self.blocks, self.last = {}, 2
-        roots = [(name + b"\0\0", pointer(self.tree(sorted(nodes.items())))) for name, nodes in sorted(globals_.items())]
+        trees = [(name, self.tree(sorted(nodes.items()))) for name, nodes in sorted(globals_.items())]
+        roots = [(name + b"\0\0", pointer(root)) for name, root in trees]
         self.put(2, 0, roots)
         self.put(1, 1, [(b"", pointer(2))])
         self.total = self.last + 1 + spare
@@ -171,6 +189,7 @@ class File:
         for g in groups:
             if any(n % 512 and n not in used for n in range(512 * g, min(512 * g + 512, self.total))):
                 master[g // 8] |= 1 << g % 8
-        head = header(block=self.size, total=self.total, free=free, key=self.key, value=self.value, master=bytes(master))
+        limits = {"block": self.size, "total": self.total, "key": self.key, "value": self.value}
+        head = header(free=free, master=bytes(master), **limits)
         zero = bytes(self.size)
         return head + b"".join(maps.get(n) or self.blocks.get(n, zero) for n in range(self.total))
