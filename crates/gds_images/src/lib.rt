@@ -1,2 +1,0 @@
-//! The file of before images.
-#![tactic(auto)]
