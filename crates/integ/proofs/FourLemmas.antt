@@ -1,5 +1,6 @@
 -- Four blocks of a set at once: the half of a byte.
-use Rattle.std.proofs.Common.{ℕ, ◌≡◌, ◌+◌, ◌*◌, ◌/◌, ◌%◌, ◌^◌, ◌<◌, ◌≢◌, Bool, true, false, eqb, ltb, List, inl, inr, refl, sym, ◌∙◌, ap, arith}
+use Rattle.std.proofs.Common.{ℕ, ◌≡◌, ◌+◌, ◌*◌, ◌/◌, ◌%◌, ◌^◌, ◌<◌, ◌≢◌, Bool, true, false, eqb, ltb, List, inl}
+use Rattle.std.proofs.Common.{inr, refl, sym, ◌∙◌, ap, arith}
 use Rattle.std.specs.Prelude.{◌||◌, ◌&&◌, slice_index}
 use Rattle.std.specs.Int.{bit_at}
 use lib.Bits.{bit_and, bit_or}
@@ -23,7 +24,8 @@ all_halves : passes_below (λ r. passes_below (λ byte. passes_below (half_test 
 unfolding half_test
 all_halves = refl
 
-half_bit : (r byte j : ℕ) → r < 2 → byte < 256 → j < 4 → bit_at (bit_and (byte / 2 ^ (4 * r)) 15) j ≡ bit_at byte (4 * r + j)
+half_bit : (r byte j : ℕ) → r < 2 → byte < 256 → j < 4 → bit_at (bit_and (byte / 2 ^ (4 * r)) 15) j
+    ≡ bit_at byte (4 * r + j)
 unfolding half_test
 half_bit r byte j low fits within =
     let at_half = passes_at (λ n. passes_below (λ b. passes_below (half_test n b) 4) 256) 2 r all_halves low in
@@ -62,7 +64,8 @@ set_other four j small within other =
 
 -- ---- the blocks of a byte of a map
 
-module _ (used : List ℕ) (number place byte j : ℕ) (low : place < 128) (within : j < 4) (is : byte ≡ slice_index used (64 * number + place / 2)) (fits : byte < 256) where
+module _ (used : List ℕ) (number place byte j : ℕ) (low : place < 128) (within : j < 4)
+    (is : byte ≡ slice_index used (64 * number + place / 2)) (fits : byte < 256) where
   abbrev pub block : ℕ
   block = 512 * number + (4 * place + j)
 
@@ -84,17 +87,20 @@ module _ (used : List ℕ) (number place byte j : ℕ) (low : place < 128) (with
 
   pub bit_else : place ≢ 0 → eqb (bit_at four j) 1 ≡ in_use used block
   bit_else other =
-      let no_map : eqb (block % 512) 0 ≡ false = ne_eqb (block % 512) 0 (λ e. other (omega (arith, first_in_group, e))) in
+      let no_map : eqb (block % 512) 0 ≡ false =
+      ne_eqb (block % 512) 0 (λ e. other (omega (arith, first_in_group, e))) in
       has_bit ∙ sym (ap (λ b. b || has_block used block) no_map)
 
   pub bit_then : four < 16 → place ≡ 0 → eqb (bit_at (bit_or four 1) j) 1 ≡ in_use used block
   bit_then small first = elim (cases_eq j 0) [
     | inl e ↦
-        let map_itself : eqb (block % 512) 0 ≡ true = eq-eqb (block % 512) 0 (omega (arith, first_in_group, first, e)) in
+        let map_itself : eqb (block % 512) 0 ≡ true =
+        eq-eqb (block % 512) 0 (omega (arith, first_in_group, first, e)) in
         ap (λ b. eqb b 1) (ap (bit_at (bit_or four 1)) e ∙ set_first four small)
         ∙ sym (ap (λ b. b || has_block used block) map_itself)
     | inr other ↦
-        let no_map : eqb (block % 512) 0 ≡ false = ne_eqb (block % 512) 0 (λ e. other (omega (arith, first_in_group, e))) in
+        let no_map : eqb (block % 512) 0 ≡ false =
+        ne_eqb (block % 512) 0 (λ e. other (omega (arith, first_in_group, e))) in
         ap (λ b. eqb b 1) (set_other four j small within other)
         ∙ has_bit ∙ sym (ap (λ b. b || has_block used block) no_map)
   ]

@@ -1,5 +1,6 @@
 -- The faults of the pairs of a group, place by place, and how many of its blocks are free.
-use Rattle.std.proofs.Common.{ℕ, zero, suc, ◌≡◌, ◌+◌, ◌-◌, ◌*◌, ◌/◌, ◌%◌, ◌<◌, ◌≤◌, Bool, true, false, eqb, List, [], ◌∷◌, ◌++◌, length, refl, sym, ◌∙◌, ap, arith, append_assoc, add-zero}
+use Rattle.std.proofs.Common.{ℕ, zero, suc, ◌≡◌, ◌+◌, ◌-◌, ◌*◌, ◌/◌, ◌%◌, ◌<◌, ◌≤◌, Bool, true, false, eqb, List}
+use Rattle.std.proofs.Common.{[], ◌∷◌, ◌++◌, length, refl, sym, ◌∙◌, ap, arith, append_assoc, add-zero}
 use Rattle.std.specs.Prelude.{flat_map, map, filter, min, nat_lt, slice_index, ◌&&◌, if◌then◌else◌, Option}
 use Rattle.std.specs.Option.{option_to_list}
 use Rattle.std.specs.List.{range_with_len}
@@ -11,10 +12,13 @@ use Rattle.gds_bitmap.proofs.CountLemmas.{count_below-add, count_below-same}
 use Rattle.gds_law.specs.Maps.{map_number, is_present, fault_of}
 use Rattle.gds_law.specs.Kinds.{map_kinds}
 use Rattle.gds_law.specs.declared.kind.FaultKind.{FaultKind}
-use Rattle.gds_law.specs.declared.kind.FaultKind.TheVariants.{BadVersion, TransactionTooNew, MapUsedTooSmall, MapUsedTooLarge, MapLevel, GroupMarkedFree, GroupMarkedFull}
+use Rattle.gds_law.specs.declared.kind.FaultKind.TheVariants.{BadVersion, TransactionTooNew, MapUsedTooSmall}
+use Rattle.gds_law.specs.declared.kind.FaultKind.TheVariants.{MapUsedTooLarge, MapLevel, GroupMarkedFree}
+use Rattle.gds_law.specs.declared.kind.FaultKind.TheVariants.{GroupMarkedFull}
 use Rattle.integ.specs.Standing.{standing}
 use Rattle.integ.proofs.StandingLemmas.{standing-filter}
-use Rattle.integ.specs.GroupMap.{GroupMap, in_use, free_count, kinds_of_pair, kinds_at, faults_at, faults_in, head_holds, head_kinds, AreRight}
+use Rattle.integ.specs.GroupMap.{GroupMap, in_use, free_count, kinds_of_pair, kinds_at, faults_at, faults_in}
+use Rattle.integ.specs.GroupMap.{head_holds, head_kinds, AreRight}
 
 -- ---- numbers one after another
 
@@ -29,9 +33,11 @@ range-add a (suc m) n =
     ap (range_with_len a) more
     ∙ ap (λ xs. a ∷ xs) (range-add (a + 1) m n ∙ ap (λ b. range_with_len (a + 1) m ++ range_with_len b n) place)
 
-flat_map-append : {A B : Type 0} (f : A → List B) (xs ys : List A) → flat_map f (xs ++ ys) ≡ flat_map f xs ++ flat_map f ys
+flat_map-append : {A B : Type 0} (f : A → List B) (xs ys : List A)
+    → flat_map f (xs ++ ys) ≡ flat_map f xs ++ flat_map f ys
 flat_map-append f [] ys = refl
-flat_map-append f (x ∷ xs) ys = ap (λ l. f x ++ l) (flat_map-append f xs ys) ∙ sym (append_assoc (f x) (flat_map f xs) (flat_map f ys))
+flat_map-append f (x ∷ xs) ys = ap (λ l. f x ++ l) (flat_map-append f xs ys)
+    ∙ sym (append_assoc (f x) (flat_map f xs) (flat_map f ys))
 
 module _ {B : Type 0} (f : ℕ → List B) where
   flat-none : (n a : ℕ) → ((k : ℕ) → a ≤ k → k < a + n → f k ≡ []) → flat_map f (range_with_len a n) ≡ []
@@ -41,7 +47,8 @@ module _ {B : Type 0} (f : ℕ → List B) where
       ∙ flat-none n (a + 1) (λ k low high. h k (omega arith) (omega arith))
 
 -- those up to an end: so many of them, and the others
-pub faults_in-run : (g : GroupMap) (a m e : ℕ) → a + m ≤ e → faults_in g a (e - a) ≡ faults_in g a m ++ faults_in g (a + m) (e - (a + m))
+pub faults_in-run : (g : GroupMap) (a m e : ℕ) → a + m ≤ e
+    → faults_in g a (e - a) ≡ faults_in g a m ++ faults_in g (a + m) (e - (a + m))
 unfolding faults_in
 faults_in-run g a m e within =
     let parts : e - a ≡ m + (e - (a + m)) = omega arith in
@@ -50,7 +57,8 @@ faults_in-run g a m e within =
     ∙ flat_map-append (faults_at g) (range_with_len a m) (range_with_len (a + m) (e - (a + m)))
 
 -- the next one
-pub faults_in-next : (g : GroupMap) (a e : ℕ) → a < e → faults_in g a (e - a) ≡ faults_at g a ++ faults_in g (a + 1) (e - (a + 1))
+pub faults_in-next : (g : GroupMap) (a e : ℕ) → a < e
+    → faults_in g a (e - a) ≡ faults_at g a ++ faults_in g (a + 1) (e - (a + 1))
 unfolding faults_in
 faults_in-next g a e within =
     let parts : e - a ≡ suc (e - (a + 1)) = omega arith in
@@ -64,7 +72,8 @@ faults_in-end g a e past =
     ap (λ n. flat_map (faults_at g) (range_with_len a n)) none
 
 -- the next four
-pub faults_in-four : (g : GroupMap) (i : ℕ) → i < 128 → faults_in g (4 * i) (512 - 4 * i) ≡ faults_in g (4 * i) 4 ++ faults_in g (4 * (i + 1)) (512 - 4 * (i + 1))
+pub faults_in-four : (g : GroupMap) (i : ℕ) → i < 128
+    → faults_in g (4 * i) (512 - 4 * i) ≡ faults_in g (4 * i) 4 ++ faults_in g (4 * (i + 1)) (512 - 4 * (i + 1))
 faults_in-four g i within =
     let place : 4 * i + 4 ≡ 4 * (i + 1) = omega arith in
     faults_in-run g (4 * i) 4 512 (omega arith) ∙ ap (λ a. faults_in g (4 * i) 4 ++ faults_in g a (512 - a)) place
@@ -82,7 +91,8 @@ pair_of-byte map i j h =
     rw (byte, place) refl
 
 -- Nothing is told of a byte whose four pairs are right.
-pub four-none : (g : GroupMap) (i byte used : ℕ) → 512 * g.number + (4 * i + 4) ≤ g.header.total → byte ≡ slice_index g.bytes (16 + i)
+pub four-none : (g : GroupMap) (i byte used : ℕ) → 512 * g.number + (4 * i + 4) ≤ g.header.total
+    → byte ≡ slice_index g.bytes (16 + i)
     → ((j : ℕ) → j < 4 → eqb (bit_at used j) 1 ≡ in_use g.used (map_number g.number + (4 * i + j)))
     → AreRight byte used → faults_in g (4 * i) 4 ≡ []
 unfolding faults_in
@@ -98,7 +108,8 @@ four-none g i byte used whole is bits right = flat-none (faults_at g) 4 (4 * i) 
         ap (λ m. in_use g.used (map_number g.number + m)) place ∙ sym (bits j within) in
         let pair : pair_of g.bytes k ≡ pair_in byte j =
         ap (pair_of g.bytes) place ∙ pair_of-byte g.bytes i j within ∙ ap (λ b. pair_in b j) (sym is) in
-        ap (map (fault_of (map_number g.number + k))) ((λ m. kinds_of_pair (present m) (marked m) (pair m)) ∙ right j within)
+        ap (map (fault_of (map_number g.number + k))) ((λ m. kinds_of_pair (present m) (marked m) (pair m))
+        ∙ right j within)
 
 -- ---- how many are free
 
@@ -109,7 +120,8 @@ count-range p a (suc n) =
     let more : 1 + n ≡ suc n = omega arith in
     let here : a + 0 ≡ a = omega arith in
     length-cond (p a) (filter p (range_with_len (a + 1) n)) a
-    ∙ (λ i. (if p (sym here i) then 1 else 0) + (count-range p (a + 1) n ∙ count_below-same (λ j. p ((a + 1) + j)) (λ j. p (a + (1 + j))) n
+    ∙ (λ i. (if p (sym here i) then 1 else 0) + (count-range p (a + 1) n
+    ∙ count_below-same (λ j. p ((a + 1) + j)) (λ j. p (a + (1 + j))) n
     (λ j l. let e : (a + 1) + j ≡ a + (1 + j) = omega arith in ap p e)) i)
     ∙ sym (split ∙ ap (λ m. m + count_below (λ j. p (a + (1 + j))) n) (count-one (λ j. p (a + j))))
     ∙ ap (count_below (λ j. p (a + j))) more
@@ -117,7 +129,8 @@ count-range p a (suc n) =
     count-one : (q : ℕ → Bool) → count_below q 1 ≡ (if q 0 then 1 else 0)
     count-one q = omega arith
 
-    length-cond : (b : Bool) (xs : List ℕ) (x : ℕ) → length (if b then x ∷ xs else xs) ≡ (if b then 1 else 0) + length xs
+    length-cond : (b : Bool) (xs : List ℕ) (x : ℕ)
+        → length (if b then x ∷ xs else xs) ≡ (if b then 1 else 0) + length xs
     length-cond true xs x = omega arith
     length-cond false xs x = omega arith
 
@@ -139,14 +152,16 @@ count-present p first total bound present is =
     ∙ add-zero (count_below p present)
 
 free-any : (g : GroupMap) (bound present : ℕ) → present ≡ min bound (g.header.total - 512 * g.number)
-    → length (filter (λ k. is_present g.header g.number k && is_free_at g.bytes k) (range_with_len 0 bound)) ≡ count_below (is_free_at g.bytes) present
+    → length (filter (λ k. is_present g.header g.number k && is_free_at g.bytes k) (range_with_len 0 bound))
+    ≡ count_below (is_free_at g.bytes) present
 free-any g bound present is =
     let q = λ (k : ℕ). is_present g.header g.number k && is_free_at g.bytes k in
     count-range q 0 bound
     ∙ count_below-same (λ j. q (0 + j)) q bound (λ j l. let e : 0 + j ≡ j = omega arith in ap q e)
     ∙ count-present (is_free_at g.bytes) (map_number g.number) g.header.total bound present is
 
-pub free-is : (g : GroupMap) (present : ℕ) → present ≡ min 512 (g.header.total - 512 * g.number) → count_below (is_free_at g.bytes) present ≡ free_count g
+pub free-is : (g : GroupMap) (present : ℕ) → present ≡ min 512 (g.header.total - 512 * g.number)
+    → count_below (is_free_at g.bytes) present ≡ free_count g
 unfolding free_count
 free-is g present is = sym (free-any g 512 present is)
 

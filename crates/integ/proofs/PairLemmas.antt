@@ -1,5 +1,6 @@
 -- The four pairs of a byte at once. The test is computed for each byte and each four bits.
-use Rattle.std.proofs.Common.{ℕ, zero, suc, ◌≡◌, ◌-◌, ◌*◌, ◌/◌, ◌%◌, ◌<◌, Bool, true, false, eqb, List, [], ◌∷◌, refl, sym, ◌∙◌, ap, arith, ◌⊎◌, inl, inr}
+use Rattle.std.proofs.Common.{ℕ, zero, suc, ◌≡◌, ◌-◌, ◌*◌, ◌/◌, ◌%◌, ◌<◌, Bool, true, false, eqb, List, [], ◌∷◌}
+use Rattle.std.proofs.Common.{refl, sym, ◌∙◌, ap, arith, ◌⊎◌, inl, inr}
 use Rattle.std.specs.Prelude.{◌&&◌, ◌↔◌, IsTrue, not, filter}
 use Rattle.std.specs.Int.{bit_at}
 use lib.Bits.{bit_and, bit_or}
@@ -12,7 +13,8 @@ use Rattle.gds_bitmap.specs.State.{state_from}
 use Rattle.gds_bitmap.specs.Pairs.{pair_in}
 use Rattle.gds_law.specs.Kinds.{pair_kinds}
 use Rattle.gds_law.specs.declared.kind.FaultKind.{FaultKind}
-use Rattle.gds_law.specs.declared.kind.FaultKind.TheVariants.{IllegalPair, UsedMarkedFree, UnusedMarkedBusy, PairPastTotal}
+use Rattle.gds_law.specs.declared.kind.FaultKind.TheVariants.{IllegalPair, UsedMarkedFree, UnusedMarkedBusy}
+use Rattle.gds_law.specs.declared.kind.FaultKind.TheVariants.{PairPastTotal}
 use Rattle.integ.specs.GroupMap.{kinds_of_pair, pair_holds, AreRight}
 
 none : List FaultKind → Bool
@@ -60,7 +62,8 @@ all_agree = refl
 
 test-is : (byte used : ℕ) → byte < 256 → used < 16 → test used byte ≡ all_fine used byte
 unfolding agree
-test-is byte used fits small = agree_below_at (test used) (all_fine used) 256 byte (agree_below_at agree (λ _. true) 16 used all_agree small) fits
+test-is byte used fits small =
+    agree_below_at (test used) (all_fine used) 256 byte (agree_below_at agree (λ _. true) 16 used all_agree small) fits
 
 -- of four tests that pass each does
 each_of_four : (p : ℕ → Bool) → (p 0 && (p 1 && (p 2 && p 3))) ≡ true → (j : ℕ) → j < 4 → p j ≡ true
@@ -79,7 +82,8 @@ each_of_four p h j l =
 
 are_right : (byte used : ℕ) → all_fine used byte ≡ true → AreRight byte used
 unfolding is_fine all_fine
-are_right byte used h j l = none_nil (kinds_of_pair true (eqb (bit_at used j) 1) (pair_in byte j)) (each_of_four (is_fine byte used) h j l)
+are_right byte used h j l =
+    none_nil (kinds_of_pair true (eqb (bit_at used j) 1) (pair_in byte j)) (each_of_four (is_fine byte used) h j l)
 
 right_all : (byte used : ℕ) → AreRight byte used → all_fine used byte ≡ true
 unfolding is_fine all_fine
@@ -107,7 +111,8 @@ module _ (byte used : ℕ) (fits : byte < 256) (small : used < 16) where
 
 -- ---- one pair, by its state
 
-past_three : (present used : Bool) (n : ℕ) → kinds_of_pair present used (suc (suc (suc n))) ≡ kinds_of_pair present used 3
+past_three : (present used : Bool) (n : ℕ) → kinds_of_pair present used (suc (suc (suc n)))
+    ≡ kinds_of_pair present used 3
 unfolding kinds_of_pair
 past_three present used n = λ i. filter (λ kind. same kind i) pair_kinds
   where
@@ -124,7 +129,8 @@ kinds_of_state New present used = kinds_of_pair present used 1
 kinds_of_state Illegal present used = kinds_of_pair present used 2
 kinds_of_state Recycled present used = kinds_of_pair present used 3
 
-pub by_state : (present used : Bool) (pair : ℕ) → kinds_of_pair present used pair ≡ kinds_of_state (state_from pair) present used
+pub by_state : (present used : Bool) (pair : ℕ)
+    → kinds_of_pair present used pair ≡ kinds_of_state (state_from pair) present used
 unfolding kinds_of_state
 by_state present used zero = refl
 by_state present used (suc zero) = refl
@@ -159,7 +165,8 @@ pub none_past : (used : Bool) → [] ≡ kinds_of_state Busy false used
 unfolding kinds_of_state kinds_of_pair
 none_past used = refl
 
-pub past_kinds : (state : State) (used : Bool) → (state ≡ Busy → ⊥) → PairPastTotal ∷ [] ≡ kinds_of_state state false used
+pub past_kinds : (state : State) (used : Bool) → (state ≡ Busy → ⊥)
+    → PairPastTotal ∷ [] ≡ kinds_of_state state false used
 unfolding kinds_of_state kinds_of_pair
 past_kinds Busy used other = absurd (other refl)
 past_kinds New used other = refl
@@ -167,7 +174,9 @@ past_kinds Illegal used other = refl
 past_kinds Recycled used other = refl
 
 -- the same of a state that is a pair's
-pub of_pair : (present used present' used' : Bool) (state : State) (pair : ℕ) (kinds : List FaultKind) → kinds ≡ kinds_of_state state present used
+pub of_pair : (present used present' used' : Bool) (state : State) (pair : ℕ) (kinds : List FaultKind)
+    → kinds ≡ kinds_of_state state present used
     → present' ≡ present → used' ≡ used → state ≡ state_from pair → kinds ≡ kinds_of_pair present' used' pair
 of_pair present used present' used' state pair kinds is p u s =
-    is ∙ (λ i. kinds_of_state (s i) present used) ∙ sym (by_state present used pair) ∙ sym (λ i. kinds_of_pair (p i) (u i) pair)
+    is ∙ (λ i. kinds_of_state (s i) present used) ∙ sym (by_state present used pair)
+    ∙ sym (λ i. kinds_of_pair (p i) (u i) pair)

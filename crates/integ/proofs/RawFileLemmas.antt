@@ -1,5 +1,6 @@
 -- A unit read from the database file of a host, where the host tells it.
-use Rattle.std.proofs.Common.{ℕ, ◌≡◌, ◌+◌, ◌-◌, ◌*◌, ◌^◌, ◌<◌, ◌≤◌, Bool, true, false, cond, eqb, List, length, take, drop, Option, Some, None, IfSome, refl, sym, ap, ◌∙◌, arith}
+use Rattle.std.proofs.Common.{ℕ, ◌≡◌, ◌+◌, ◌-◌, ◌*◌, ◌^◌, ◌<◌, ◌≤◌, Bool, true, false, cond, eqb, List, length}
+use Rattle.std.proofs.Common.{take, drop, Option, Some, None, IfSome, refl, sym, ap, ◌∙◌, arith}
 use Rattle.std.specs.Option.{ForSome}
 use Rattle.std.proofs.lemmas.List.{take_all}
 use Rattle.host_model.specs.Files.{Contents, Reads}
@@ -43,7 +44,8 @@ read_whole (Some c) unit at count old new is placed reads short =
 
 -- It begins within 2^64 bytes, as many as a length can say.
 pub place_small : (told : Option Contents) (unit n size : ℕ)
-    → ForSome (database_of told) (λ file. IsUnit file unit n) → IfSome (database_of told) (λ file. size ≡ length file) → size < 2 ^ 64
+    → ForSome (database_of told) (λ file. IsUnit file unit n)
+    → IfSome (database_of told) (λ file. size ≡ length file) → size < 2 ^ 64
     → (place unit n < 2 ^ 64 → ⊥) → database_of told ≡ None
 place_small None unit n size is long fits past = refl
 place_small (Some c) unit n size is long fits past =

@@ -1,5 +1,6 @@
 -- The faults of the map of a group of 512 blocks, by the header and the map's bytes alone.
-use Rattle.std.specs.Prelude.{ℕ, ◌≡◌, ◌<◌, ◌+◌, ◌%◌, ◌==◌, Bool, true, false, ◌&&◌, ◌||◌, not, nat_lt, nat_le, List, [], ◌++◌, length, map, filter, flat_map}
+use Rattle.std.specs.Prelude.{ℕ, ◌≡◌, ◌<◌, ◌+◌, ◌%◌, ◌==◌, Bool, true, false, ◌&&◌, ◌||◌, not, nat_lt, nat_le}
+use Rattle.std.specs.Prelude.{List, [], ◌++◌, length, map, filter, flat_map}
 use Rattle.std.specs.Int.{bit_at}
 use Rattle.std.specs.List.{range_with_len}
 use Rattle.gds_block.specs.Block.{version_of, reserved_of, level_of, used_of, tn_of}
@@ -12,7 +13,10 @@ use Rattle.gds_law.specs.Kinds.{map_kinds, pair_kinds}
 use Rattle.gds_law.specs.Maps.{map_number, is_present, places, fault_of}
 use Rattle.gds_law.specs.declared.fault.Fault.{Fault}
 use Rattle.gds_law.specs.declared.kind.FaultKind.{FaultKind}
-use Rattle.gds_law.specs.declared.kind.FaultKind.TheVariants.{BadVersion, TransactionTooNew, MapUsedTooSmall, MapUsedTooLarge, MapLevel, GroupMarkedFree, GroupMarkedFull, IllegalPair, UsedMarkedFree, UnusedMarkedBusy, PairPastTotal}
+use Rattle.gds_law.specs.declared.kind.FaultKind.TheVariants.{BadVersion, TransactionTooNew, MapUsedTooSmall}
+use Rattle.gds_law.specs.declared.kind.FaultKind.TheVariants.{MapUsedTooLarge, MapLevel, GroupMarkedFree}
+use Rattle.gds_law.specs.declared.kind.FaultKind.TheVariants.{GroupMarkedFull, IllegalPair, UsedMarkedFree}
+use Rattle.gds_law.specs.declared.kind.FaultKind.TheVariants.{UnusedMarkedBusy, PairPastTotal}
 use Rattle.integ_walk.specs.BlockSet.{has_block}
 
 -- The file's header, which group it is, the bytes of its map, and the set of blocks that kept paths end in.
@@ -57,7 +61,8 @@ kinds_of_pair present used pair = filter (pair_holds present used pair) pair_kin
 
 -- the same of a place of the group
 abbrev pub kinds_at : GroupMap → ℕ → List FaultKind
-kinds_at g k = kinds_of_pair (is_present g.header g.number k) (in_use g.used (map_number g.number + k)) (pair_of g.bytes k)
+kinds_at g k = kinds_of_pair (is_present g.header g.number k) (in_use g.used (map_number g.number + k))
+    (pair_of g.bytes k)
 
 -- the faults of the map, and of one pair
 abbrev pub head_faults : GroupMap → List Fault
@@ -77,7 +82,7 @@ pair_faults g = faults_in g 0 512
 abbrev pub faults_of : GroupMap → List Fault
 faults_of g = head_faults g ++ pair_faults g
 
--- Nothing is wrong with the four pairs of a byte, of blocks that are present. The bits of a number say which of them are
--- in use.
+-- Nothing is wrong with the four pairs of a byte, of blocks that are present. The bits of a number say which of the
+-- blocks are in use.
 abbrev pub AreRight : ℕ → ℕ → Type 0
 AreRight byte used = (j : ℕ) → j < 4 → kinds_of_pair true (bit_at used j == 1) (pair_in byte j) ≡ []

@@ -15,7 +15,8 @@ any_set bytes = list_any (λ b. not (b == 0)) bytes
 abbrev pub is_marked : Header → List ℕ → Bool
 is_marked h bytes =
     any_set (slice_range bytes 36 40)
-    || (any_set (slice_range bytes 48 4096) || (any_set (slice_range bytes 4352 8192) || list_any (has_free h) (groups_past h)))
+    || (any_set (slice_range bytes 48 4096) ||
+    (any_set (slice_range bytes 4352 8192) || list_any (has_free h) (groups_past h)))
 
 -- the transaction number may not be this one
 abbrev pub is_bad_number : ℕ → Bool

@@ -4,7 +4,8 @@ ghost use Rattle.std.specs.Option.{option_to_list};
 ghost use Rattle.gds_law.specs.Maps.{map_number};
 ghost use Rattle.gds_law.specs.Sink.{WasTold};
 ghost use Rattle.integ_walk.specs.BlockSet.{has_block};
-ghost use Rattle.integ.specs.GroupMap.{in_use, free_count, head_faults, head_holds, head_kinds, faults_in, faults_of, kinds_at, pair_faults};
+ghost use Rattle.integ.specs.GroupMap.{in_use, free_count, head_faults, head_holds, head_kinds, faults_in};
+ghost use Rattle.integ.specs.GroupMap.{faults_of, kinds_at, pair_faults};
 
 use crate::pairs::{are_right, pair_fault};
 use crate::telling::{tell, tell_standing};
@@ -16,8 +17,8 @@ use gds_law::{FaultKind, FaultSink, SinkTrouble};
 /// How many blocks a group has, its map among them.
 pub(crate) const GROUP: u32 = 512;
 
-/// A group's map as it is read: which group it is, the bytes of the map, and the set of the blocks that kept paths end in,
-/// block b being bit b mod 8 of byte b div 8.
+/// A group's map as it is read: which group it is, the bytes of the map, and the set of the blocks that kept paths
+/// end in. Block b is bit b mod 8 of byte b div 8 of the set.
 #[derive(Clone, Copy)]
 pub(crate) struct Group<'a> {
     pub(crate) header: &'a Header,
@@ -68,7 +69,8 @@ impl Group<'_> {
     /// Tells what is wrong with the map's head, or with what the master map says of the group.
     fn tell_head<F: FaultSink>(&self, free: u32, sink: &mut F) -> Result<u64, SinkTrouble>
         requires { free ≡ free_count (map_of self.now) }
-        ensures told { WasTold F.listed F.failures sink.old sink.new (head_faults (map_of self.now)) result SinkTrouble.Failed }
+        ensures told { WasTold F.listed F.failures sink.old sink.new (head_faults (map_of self.now)) result
+            SinkTrouble.Failed }
         ensures count { IfOk result (λ count. count ≡ length (head_kinds (map_of self.now))) }
         ensures few { IfOk result (λ count. count ≤ 7) }
     {
@@ -98,7 +100,8 @@ impl Group<'_> {
 
     /// Tells what is wrong with the pairs: four at once where nothing is.
     fn tell_pairs<F: FaultSink>(&self, sink: &mut F) -> Result<u64, SinkTrouble>
-        ensures told { WasTold F.listed F.failures sink.old sink.new (pair_faults (map_of self.now)) result SinkTrouble.Failed }
+        ensures told { WasTold F.listed F.failures sink.old sink.new (pair_faults (map_of self.now)) result
+            SinkTrouble.Failed }
         ensures count { IfOk result (λ count. count ≡ length (pair_faults (map_of self.now))) }
         ensures few { IfOk result (λ count. count ≤ 512) }
     {
@@ -117,7 +120,8 @@ impl Group<'_> {
     fn used_of_four(&self, place: u32) -> u8
         requires { place < 128 }
         ensures small { result < 16 }
-        ensures bits { (j : ℕ) → j < 4 → (bit_at result j == 1) ≡ in_use self.now.used.now (map_number self.now.number + (4 * place + j)) }
+        ensures bits { (j : ℕ) → j < 4
+            → (bit_at result j == 1) ≡ in_use self.now.used.now (map_number self.now.number + (4 * place + j)) }
     {
         let byte = byte_at(self.used, 64 * self.number as usize + place as usize / 2);
         let four = (byte >> (4 * (place % 2))) & 15;

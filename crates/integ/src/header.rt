@@ -1,5 +1,6 @@
 //! The header of a file: whether it can be read, and the faults behind which the reading goes on.
-ghost use Rattle.std.specs.Prelude.{◌≡◌, ◌≤◌, ℕ, List, Some, None, length, map, take, ◌||◌, not, ◌==◌, IfOk, IfErr, OnOk};
+ghost use Rattle.std.specs.Prelude.{◌≡◌, ◌≤◌, ℕ, List, Some, None, length, map, take, ◌||◌, not, ◌==◌, IfOk, IfErr};
+ghost use Rattle.std.specs.Prelude.{OnOk};
 ghost use Rattle.std.specs.List.{list_any};
 ghost use Rattle.gds_header.specs.Fields.{fields_of, file_length_of};
 ghost use Rattle.gds_header.specs.Kinds.{IsWithinLimits, ending_kind, groups_past, has_free};
@@ -23,7 +24,8 @@ pub(crate) fn read_header(bytes: &[u8], size: u64) -> Result<Header, HeaderKind>
     requires { length bytes.now ≡ 8192 }
     ensures fields { IfOk result (λ header. header ≡ fields_of bytes.now) }
     ensures limits { IfOk result IsWithinLimits }
-    ensures goes_on { OnOk result ((file : List ℕ) → take 8192 file ≡ bytes.now → length file ≡ size → ending_kind file ≡ None) }
+    ensures goes_on { OnOk result ((file : List ℕ) → take 8192 file ≡ bytes.now → length file ≡ size
+        → ending_kind file ≡ None) }
     ensures ends { IfErr result (λ kind.
         (file : List ℕ) → take 8192 file ≡ bytes.now → length file ≡ size → ending_kind file ≡ Some kind) }
 {
@@ -34,7 +36,8 @@ pub(crate) fn read_header(bytes: &[u8], size: u64) -> Result<Header, HeaderKind>
     Ok(header)
 }
 
-/// Tells the kinds that stand of a header and don't end the reading: of a file of this size that begins with these bytes.
+/// Tells the kinds that stand of a header and don't end the reading: of a file of this size that begins with these
+/// bytes.
 pub(crate) fn tell_header<F: FaultSink>(
     header: &Header,
     bytes: &[u8],

@@ -43,7 +43,7 @@ pub fn integ<U: UnitSource, F: FaultSink>(
     ensures one_map { result ≡ Ok 0 → ForSome (U.image units.old) HasOneMap }
 
     // Whether it tells or not:
-    ensures read { U.was_read units.old units.new }
+    ensures source { U.was_read units.old units.new }
     ensures cause { HasCause U.image U.failures F.failures units.old units.new sink.old sink.new result }
 {
     let mut bytes = [0; HEADER_LENGTH];

@@ -1,11 +1,10 @@
-ghost use Rattle.std.specs.Prelude.{◌≡◌, ◌<◌, ◌≤◌, ◌++◌, ◌^◌, ℕ, None, length, IfOk, IsErrOf};
+ghost use Rattle.std.specs.Prelude.{◌≡◌, ◌<◌, ◌++◌, ◌^◌, length, IfOk};
 ghost use Rattle.std.specs.Option.{ForSome};
-ghost use Rattle.host_model.specs.Failures.{Rose};
 ghost use Rattle.gds_header.specs.Kinds.{IsWithinLimits};
 ghost use Rattle.gds_law.specs.Maps.{count_faults, free_blocks, map_faults};
 ghost use Rattle.gds_law.specs.Sink.{Grew};
 ghost use Rattle.integ.specs.GroupMap.{in_use};
-ghost use Rattle.integ_walk.specs.Walk.{IsHeaderOf};
+ghost use Rattle.integ_walk.specs.Walk.{HasCause, IsHeaderOf};
 
 use crate::group::{GROUP, Group};
 use crate::telling::tell;
@@ -22,8 +21,9 @@ struct MapsTold {
     free: u32,
 }
 
-/// Tells the faults of the local bitmaps of a file with this header, group by group, and then that of its free count. It
-/// answers how many they are. Block b is in use where it is a map or bit b mod 8 of byte b div 8 of `used` is set.
+/// Tells the faults of the local bitmaps of a file with this header, group by group, and then that of its free count.
+/// It answers how many they are. A block is in use where it is a map, or is in the set `used`: block b is bit b mod 8 of
+/// byte b div 8. Where the call is refused, some of the first faults were told.
 pub fn map_faults<U: UnitSource, F: FaultSink>(
     alloc: Global,
     units: &mut U,
@@ -33,20 +33,16 @@ pub fn map_faults<U: UnitSource, F: FaultSink>(
 ) -> Result<u64, IntegError>
     requires limits { IsWithinLimits header.now }
     requires header { ForSome (U.image units.old) (IsHeaderOf header.now) }
-    ensures told { ForSome (U.image units.old) (λ file. let due = map_faults file (in_use used.now) ++ count_faults file in
+    ensures told { ForSome (U.image units.old)
+        (λ file. let due = map_faults file (in_use used.now) ++ count_faults file in
         Grew (F.listed sink.old) (F.listed sink.new) due result) }
     ensures count { IfOk result (λ n. ForSome (U.image units.old)
         (λ file. n ≡ length (map_faults file (in_use used.now) ++ count_faults file))) }
-    ensures few { IfOk result (λ n. n < 2 ^ 32) }
 
-    // What stays, and what each refusal has for a cause.
-    ensures image { U.image units.new ≡ U.image units.old }
-    ensures read { U.was_read units.old units.new }
-    ensures unit_failures { U.failures units.old ≤ U.failures units.new }
-    ensures sink_failures { F.failures sink.old ≤ F.failures sink.new }
-    ensures read_fault { IsErrOf result IntegError.ReadFault → Rose (U.failures units.old) (U.failures units.new) }
-    ensures say_fault { IsErrOf result IntegError.SayFault → Rose (F.failures sink.old) (F.failures sink.new) }
-    ensures changed { (unit : ℕ) → IsErrOf result (IntegError.Changed unit) → U.image units.old ≡ None }
+    // Whether it tells or not:
+    ensures few { IfOk result (λ n. n < 2 ^ 32) }
+    ensures source { U.was_read units.old units.new }
+    ensures cause { HasCause U.image U.failures F.failures units.old units.new sink.old sink.new result }
 {
     let mut block = vec![in alloc; 0; header.block_size as usize]?;
     let told = tell_maps(units, header, used, &mut block, sink)?;
@@ -74,13 +70,8 @@ fn tell_maps<U: UnitSource, F: FaultSink>(
         (λ file. told.faults ≡ length (map_faults file (in_use used.now)))) }
     ensures free { IfOk result (λ told. ForSome (U.image units.old) (λ file. told.free ≡ free_blocks file)) }
     ensures few { IfOk result (λ told. told.faults < 2 ^ 31) }
-    ensures image { U.image units.new ≡ U.image units.old }
-    ensures read { U.was_read units.old units.new }
-    ensures unit_failures { U.failures units.old ≤ U.failures units.new }
-    ensures sink_failures { F.failures sink.old ≤ F.failures sink.new }
-    ensures read_fault { IsErrOf result IntegError.ReadFault → Rose (U.failures units.old) (U.failures units.new) }
-    ensures say_fault { IsErrOf result IntegError.SayFault → Rose (F.failures sink.old) (F.failures sink.new) }
-    ensures changed { (unit : ℕ) → IsErrOf result (IntegError.Changed unit) → U.image units.old ≡ None }
+    ensures source { U.was_read units.old units.new }
+    ensures cause { HasCause U.image U.failures F.failures units.old units.new sink.old sink.new result }
 {
     let mut maps = MapsTold { faults: 0, free: 0 };
     for number in 0..header.total.div_ceil(GROUP) {

@@ -30,7 +30,7 @@ pub(crate) fn open<U: UnitSource>(units: &mut U, bytes: &mut [u8]) -> Result<Ope
     ensures limits { IfOk result (λ opened. IfOk opened.header IsWithinLimits) }
     ensures are_bytes { ForSome (U.image units.old) (All (λ b. b < 256)) }
     ensures image { U.image units.new ≡ U.image units.old }
-    ensures read { U.was_read units.old units.new }
+    ensures source { U.was_read units.old units.new }
     ensures failures { U.failures units.old ≤ U.failures units.new }
     ensures failed { IsErrOf result UnitTrouble.Failed → Rose (U.failures units.old) (U.failures units.new) }
     ensures changed { (unit : ℕ) → IsErrOf result (UnitTrouble.Changed unit) → U.image units.old ≡ None }
@@ -66,7 +66,7 @@ pub(crate) fn tell_open<U: UnitSource, F: FaultSink>(
         IfOk result (IsToldWhole file (F.listed sink.old) (F.listed sink.new))) }
     ensures refused { ForSome (U.image units.old) (λ file.
         OnErr result (IsToldInPart file (F.listed sink.old) (F.listed sink.new))) }
-    ensures read { U.was_read units.old units.new }
+    ensures source { U.was_read units.old units.new }
     ensures cause { HasCause U.image U.failures F.failures units.old units.new sink.old sink.new result }
 {
     let of_header = tell_header(header, bytes, size, sink)?;

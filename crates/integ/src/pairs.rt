@@ -10,8 +10,8 @@ use gds_law::FaultKind;
 /// The low bits of a byte's pairs. That of a free block is set.
 const LOW_BITS: u8 = 0x55;
 
-/// Whether nothing is wrong with the four pairs of a byte. Their blocks are present, and the bits of `used` say which of
-/// them are in use.
+/// Whether nothing is wrong with the four pairs of a byte. Their blocks are present, and the bits of `used` say which
+/// of them are in use.
 pub(crate) fn are_right(byte: u8, used: u8) -> bool
     requires { used < 16 }
     ensures { IsTrue result ↔ AreRight byte used }

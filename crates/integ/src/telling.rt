@@ -32,7 +32,8 @@ pub(crate) fn tell_standing<F: FaultSink>(
     kinds: &[Asked],
     sink: &mut F,
 ) -> Result<u64, SinkTrouble>
-    ensures told { WasTold F.listed F.failures sink.old sink.new (map (fault_of block) (standing kinds.now)) result SinkTrouble.Failed }
+    ensures told { WasTold F.listed F.failures sink.old sink.new (map (fault_of block) (standing kinds.now)) result
+        SinkTrouble.Failed }
     ensures count { IfOk result (λ count. count ≡ length (standing kinds.now)) }
     ensures few { IfOk result (λ count. count ≤ length kinds.now) }
 {

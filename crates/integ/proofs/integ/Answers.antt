@@ -7,7 +7,8 @@ use Rattle.integ.proofs.IntegLemmas.{ending-told, ending-refused, none-told, one
 use Rattle.integ.proofs.integ.Goals as goal
 
 pub returns-in_err-opened-clause-refused : goal.returns-in_err-opened-clause-refused
-returns-in_err-opened-clause-refused g c x tells = OnErr-any c.from_residual.result _ (none-told x (g.F.FaultSink.listed c.args.sink.now))
+returns-in_err-opened-clause-refused g c x tells =
+    OnErr-any c.from_residual.result _ (none-told x (g.F.FaultSink.listed c.args.sink.now))
 
 pub tell_open-requires-clause-opens : goal.tell_open-requires-clause-opens
 tell_open-requires-clause-opens g c x tells =
@@ -19,12 +20,14 @@ returns-in_err-tell-in-Err-clause-refused g c x tells =
     let new = g.F.FaultSink.listed c.tell.new.sink in
     OnErr-any c.from_residual-in_err-tell-in-Err.result _
     (ending-refused x c.in-Err.kind (rw c.in-Err.is at (c.in_ok-opened.ensures.opens x tells)) old new
-    (subst (λ (k : FaultKind). IsCut old new (fault_of 0 k ∷ [])) c.from.ensures c.in_err-tell-in-Err.ensures.faults.some))
+    (subst (λ (k : FaultKind). IsCut old new (fault_of 0 k ∷ [])) c.from.ensures
+    c.in_err-tell-in-Err.ensures.faults.some))
 
 pub returns-in_ok-tell-in-Err-clause-told : goal.returns-in_ok-tell-in-Err-clause-told
 returns-in_ok-tell-in-Err-clause-told g c x tells =
     let old = g.F.FaultSink.listed c.args.sink.now in
-    ending-told x c.in-Err.kind (rw c.in-Err.is at (c.in_ok-opened.ensures.opens x tells)) old (g.F.FaultSink.listed c.tell.new.sink)
+    ending-told x c.in-Err.kind (rw c.in-Err.is at (c.in_ok-opened.ensures.opens x tells)) old
+    (g.F.FaultSink.listed c.tell.new.sink)
     (c.in_ok-tell-in-Err.ensures.faults.all ∙ ap (λ k. old ++ fault_of 0 k ∷ []) c.from.ensures)
 
 pub returns-in-Ok-clause-one_map : goal.returns-in-Ok-clause-one_map

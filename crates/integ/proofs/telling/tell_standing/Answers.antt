@@ -19,14 +19,18 @@ loop-kind-preserved g c =
     let k = get_or kinds i (ShortHeader, false) in
     let told = g.F.FaultSink.listed in
     let so : (ks : List FaultKind) → standing (drop i kinds) ≡ ks
-    → Reached (told c.args.sink.now) (told c.loop-kind.sink) (map (fault_of block) ks) (map (fault_of block) (standing kinds)) c.loop-kind.count =
+    → Reached (told c.args.sink.now) (told c.loop-kind.sink) (map (fault_of block) ks)
+    (map (fault_of block) (standing kinds)) c.loop-kind.count =
     λ (ks : List FaultKind) (e : standing (drop i kinds) ≡ ks).
-    subst (λ (ks : List FaultKind). Reached (told c.args.sink.now) (told c.loop-kind.sink) (map (fault_of block) ks) (map (fault_of block) (standing kinds)) c.loop-kind.count) e c.loop-kind.invariant.told in
+    subst (λ (ks : List FaultKind). Reached (told c.args.sink.now) (told c.loop-kind.sink) (map (fault_of block) ks)
+    (map (fault_of block) (standing kinds)) c.loop-kind.count) e c.loop-kind.invariant.told in
     elim c.if-stands.branch [
       | then-stands+in_ok-tell w ↦
           let e = standing-yes kinds i (ShortHeader, false) c.loop-kind-test.true w.if-stands.true in
           record {
-            told = Reached-more _ (told c.loop-kind.sink) _ (fault_of block k.0 ∷ []) _ (map (fault_of block) (standing kinds)) c.loop-kind.count _ (so _ e) (ap told w.sink-is ∙ w.in_ok-tell.ensures.faults.all) w.count-is;
+            told = Reached-more _ (told c.loop-kind.sink) _ (fault_of block k.0 ∷ []) _
+                (map (fault_of block) (standing kinds)) c.loop-kind.count _ (so _ e)
+                (ap told w.sink-is ∙ w.in_ok-tell.ensures.faults.all) w.count-is;
             few = omega arith;
             failures = omega (arith, w.in_ok-tell.ensures.failures, ap g.F.FaultSink.failures w.sink-is);
           }
@@ -49,6 +53,9 @@ returns-in_err-tell-clause-told g c =
     let e = standing-yes kinds i (ShortHeader, false) c.loop-kind-test.true c.if-stands.true in
     let p = err_from_is_err_and c.from_residual.result c.from_residual.ensures.1 in
     WasTold-refused told g.F.FaultSink.failures c.args.sink.now c.loop-kind.sink c.tell.new.sink
-    (fault_of block k.0 ∷ []) (map (fault_of block) (standing (drop (i + 1) kinds))) (map (fault_of block) (standing kinds)) c.loop-kind.count Failed _ c.from_residual.result Failed p.0
-    (subst (λ (ks : List FaultKind). Reached (told c.args.sink.now) (told c.loop-kind.sink) (map (fault_of block) ks) (map (fault_of block) (standing kinds)) c.loop-kind.count) e c.loop-kind.invariant.told)
+    (fault_of block k.0 ∷ []) (map (fault_of block) (standing (drop (i + 1) kinds)))
+    (map (fault_of block) (standing kinds)) c.loop-kind.count Failed _ c.from_residual.result Failed p.0
+    (subst (λ (ks : List FaultKind). Reached (told c.args.sink.now) (told c.loop-kind.sink)
+    (map (fault_of block) ks) (map (fault_of block) (standing kinds)) c.loop-kind.count) e
+    c.loop-kind.invariant.told)
     c.loop-kind.invariant.failures c.in_err-tell.ensures p.1 (λ e. sym p.2 ∙ e)
