@@ -1,3 +1,3 @@
-pub mod PairLaws
-pub mod CountLaws
-pub mod FreshLaws
+pub mod PairLemmas
+pub mod CountLemmas
+pub mod FreshLemmas

@@ -10,6 +10,3 @@ mod state;
 
 pub use bitmap::{count_free, first_free, fresh, mark, state_of};
 pub use state::State;
-
-#[cfg(test)]
-mod tests;

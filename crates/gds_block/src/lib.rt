@@ -14,6 +14,3 @@ pub use fields::{pointer_of, put_bytes, put_u16, put_u32, put_u64, u16_at, u32_a
 pub use head::write_head;
 pub use records::{RecordView, Records, least_size};
 pub use view::BlockView;
-
-#[cfg(test)]
-mod tests;

@@ -3,8 +3,6 @@
 
 mod header;
 mod kind;
-#[cfg(test)]
-mod tests;
 
 pub use header::{HEADER_LENGTH, Header};
 pub use kind::{HeaderFault, HeaderKind, ending_is_decided_by_front, ending_stands_alone};

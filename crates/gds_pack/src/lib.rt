@@ -19,6 +19,3 @@ pub use laws::{block_read, joined_size, part_size, size_with_one_more, three_run
 pub use m_key::Key;
 pub use packing::{pack, packed_size};
 pub use unpacking::unpack;
-
-#[cfg(test)]
-mod tests;

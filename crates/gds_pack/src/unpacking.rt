@@ -105,7 +105,11 @@ fn read_pointer(
     let Some(entry) = read_keyed(alloc, previous, view)? else {
         return Ok(None);
     };
-    Ok(if entry.rest.len() == 4 { Some(entry) } else { None })
+    Ok(if entry.rest.len() == 4 {
+        Some(entry)
+    } else {
+        None
+    })
 }
 
 // The entry of a record that has a key, if it can be read behind the key before it.

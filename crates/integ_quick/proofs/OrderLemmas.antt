@@ -9,7 +9,7 @@ use Rattle.std.specs.declared.cmp.Ordering.TheVariants.{Less, Equal, Greater}
 use Rattle.std.proofs.lemmas.Bool.{eqb-true, eq-eqb, ne_eqb, false≢true, cases_Bool}
 use Rattle.std.proofs.lemmas.Cmp.{nat_list_cmp_total, tied_itself}
 use Rattle.m_key.specs.KeyEnd.{shared}
-use Rattle.m_key.proofs.ZeroLemmas.{nat_cmp_less, nat_cmp_same}
+use Rattle.m_number.proofs.OrderingLemmas.{nat_cmp_less, nat_cmp_same}
 use Rattle.gds_law.specs.Record.{is_below, is_above_bound, is_below_bound}
 
 -- the keys agree in the first so many bytes, and then the second has a greater byte or the first ends

@@ -1,7 +1,7 @@
 use Rattle.std.proofs.Common.{◌≡◌, ◌+◌, ◌-◌, ◌*◌, ◌/◌, ◌%◌, ◌<◌, ◌∙◌, refl, ap, drop, arith, length-take, length-drop}
 use Rattle.gds_bitmap.specs.Pairs.{count_below}
 use Rattle.gds_bitmap.specs.Bitmap.{is_free_at}
-use Rattle.gds_bitmap.proofs.CountLaws.{part_byte, count_step, count_below_le}
+use Rattle.gds_bitmap.proofs.CountLemmas.{part_byte, count_step, count_below_le}
 use Rattle.gds_bitmap.proofs.bitmap.count_free.Goals as goal
 
 -- after one more byte its blocks are counted too

@@ -1,7 +1,7 @@
 use Rattle.std.proofs.Common.{ℕ, ltb, ◌+◌, ◌-◌, ◌*◌, ◌<◌, take, drop, get_or, arith, length-take}
 use Rattle.std.proofs.lemmas.Bool.{ltb-false}
 use Rattle.gds_bitmap.specs.Bitmap.{IsFirstFree, NoneFree}
-use Rattle.gds_bitmap.proofs.CountLaws.{part_byte, NoneFree-step, NoneFree-less, IsFirstFree-step, IfSome-then_some, IfNone-then_some}
+use Rattle.gds_bitmap.proofs.CountLemmas.{part_byte, NoneFree-step, NoneFree-less, IsFirstFree-step, IfSome-then_some, IfNone-then_some}
 use Rattle.gds_bitmap.proofs.bitmap.first_free.Goals as goal
 
 abbrev place_of : goal.After-then_some → ℕ

@@ -1,7 +1,7 @@
 use Rattle.std.proofs.Common.{length, take, drop, length-take, length-drop, ◌≡◌, ◌<◌, ◌+◌, ◌/◌, ◌∙◌, ap, sym, min, arith, lit<}
 use Rattle.gds_bitmap.specs.declared.state.State.TheVariants.{New}
 use Rattle.gds_bitmap.specs.Bitmap.{fresh_state}
-use Rattle.gds_bitmap.proofs.FreshLaws.{take-Marks, drop-Marks, states-more, state_at-zero, zero_at, fresh_state-none}
+use Rattle.gds_bitmap.proofs.FreshLemmas.{take-Marks, drop-Marks, states-more, state_at-zero, zero_at, fresh_state-none}
 use borrow.Rule.Slice.PartMut.{put_mid, post_of}
 use Rattle.std.proofs.lemmas.List.{drop-drop}
 use Rattle.gds_block.proofs.HeadLemmas.{take-head_bytes, drop-head_bytes, HasHead-front}

@@ -1,5 +1,5 @@
 use Rattle.std.proofs.Common.{arith}
-use Rattle.gds_bitmap.proofs.PairLaws.{count_of_low_ones}
+use Rattle.gds_bitmap.proofs.PairLemmas.{count_of_low_ones}
 use Rattle.gds_bitmap.proofs.pairs.count_free_in.Goals as goal
 
 pub returns : goal.returns

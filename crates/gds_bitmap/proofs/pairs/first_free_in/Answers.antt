@@ -1,5 +1,5 @@
 use Rattle.std.proofs.Common.{arith}
-use Rattle.gds_bitmap.proofs.PairLaws.{NoneFreeIn-from_low_bits, IsFirstFreeIn-lowest}
+use Rattle.gds_bitmap.proofs.PairLemmas.{NoneFreeIn-from_low_bits, IsFirstFreeIn-lowest}
 use Rattle.gds_bitmap.proofs.pairs.first_free_in.Goals as goal
 
 pub returns-then-free-eq0-clause-none : goal.returns-then-free-eq0-clause-none

@@ -1,6 +1,6 @@
 use Rattle.std.proofs.Common.{arith, refl, ◌∙◌}
 use Rattle.std.proofs.lemmas.Bool.{eq-eqb, ne_eqb}
-use Rattle.gds_bitmap.proofs.PairLaws.{pair_in-replaced}
+use Rattle.gds_bitmap.proofs.PairLemmas.{pair_in-replaced}
 use Rattle.gds_bitmap.proofs.pairs.with_pair.Goals as goal
 
 pub returns-clause-set : goal.returns-clause-set

@@ -1,4 +1,4 @@
-use super::*;
+use gds_bitmap::{State, count_free, first_free, fresh, mark, state_of};
 
 #[test]
 fn makes_the_first_map_of_a_database(rt: HostRuntime) {
@@ -20,17 +20,18 @@ fn makes_the_first_map_of_a_database(rt: HostRuntime) {
 
 #[test]
 fn changes_one_pair(rt: HostRuntime) {
-    for (k, state, byte) in [
-        (4, State::Recycled, 0xE7),
-        (5, State::Busy, 0xE0),
-        (6, State::New, 0xD4),
-        (7, State::Illegal, 0xA4),
-    ] {
+    let rows = [
+        ("the first pair", 4, State::Recycled, 0xE7),
+        ("the second", 5, State::Busy, 0xE0),
+        ("the third", 6, State::New, 0xD4),
+        ("the last", 7, State::Illegal, 0xA4),
+    ];
+    for (label, k, state, byte) in rows {
         let mut map = [0; 144];
         map[17] = 0xE4;
         mark(&mut map, k, state);
-        assert_eq!(rt; map[17], byte, "at {k}");
-        assert_eq!(rt; state_of(&map, k), state, "at {k}");
+        assert_eq!(rt; map[17], byte, "{label}");
+        assert_eq!(rt; state_of(&map, k), state, "{label}");
     }
 }
 
@@ -40,14 +41,15 @@ fn finds_and_counts_what_is_free(rt: HostRuntime) {
     mark(&mut map, 5, State::Illegal);
     mark(&mut map, 6, State::Recycled);
     mark(&mut map, 511, State::New);
-    for (present, first, count) in [
-        (0, None, 0),
-        (6, None, 0),
-        (7, Some(6), 1),
-        (511, Some(6), 1),
-        (512, Some(6), 2),
-    ] {
-        assert_eq!(rt; first_free(&map, present), first, "of {present}");
-        assert_eq!(rt; count_free(&map, present), count, "of {present}");
+    let rows = [
+        ("no blocks", 0, None, 0),
+        ("busy and illegal ones", 6, None, 0),
+        ("the recycled one too", 7, Some(6), 1),
+        ("all but the last", 511, Some(6), 1),
+        ("the new one too", 512, Some(6), 2),
+    ];
+    for (label, present, first, count) in rows {
+        assert_eq!(rt; first_free(&map, present), first, "{label}");
+        assert_eq!(rt; count_free(&map, present), count, "{label}");
     }
 }

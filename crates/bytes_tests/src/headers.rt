@@ -1,6 +1,6 @@
 ghost use Rattle.std.specs.Prelude.{◌≡◌, length};
 
-use super::{HEADER_LENGTH, Header, HeaderFault, HeaderKind};
+use gds_header::{HEADER_LENGTH, Header, HeaderFault, HeaderKind};
 use std::test::Fail;
 
 /// The fields from byte 8 on of a file that was just made: 100 blocks of 1,024 bytes, 97 of them free.
@@ -43,22 +43,52 @@ fn reads_each_field(rt: HostRuntime) -> Result<(), Fail> {
 
 #[test]
 fn tells_the_first_fault(rt: HostRuntime) {
-    let changes = [
-        (7, b'2', HeaderFault::NotDb, "DBNOTDB"),
-        (8, 0xE8, HeaderFault::NotMultiple, "DBNOTMLTP"),
-        (9, 0, HeaderFault::NotMultiple, "DBNOTMLTP"),
-        (10, 1, HeaderFault::TooLarge, "DBSZGT64K"),
-        (12, 0, HeaderFault::NoTotal, "DBTTLBLK0"),
-        (12, 2, HeaderFault::Limit, "GDSLIMIT"),
-        (20, 63, HeaderFault::Limit, "GDSLIMIT"),
-        (26, 0x11, HeaderFault::Limit, "GDSLIMIT"),
-        (28, 2, HeaderFault::Limit, "GDSLIMIT"),
-        (33, 4, HeaderFault::Limit, "GDSLIMIT"),
+    let rows = [
+        ("another label", 7, b'2', HeaderFault::NotDb, "DBNOTDB"),
+        (
+            "no multiple of 512",
+            8,
+            0xE8,
+            HeaderFault::NotMultiple,
+            "DBNOTMLTP",
+        ),
+        (
+            "blocks of no bytes",
+            9,
+            0,
+            HeaderFault::NotMultiple,
+            "DBNOTMLTP",
+        ),
+        (
+            "blocks of 66,560 bytes",
+            10,
+            1,
+            HeaderFault::TooLarge,
+            "DBSZGT64K",
+        ),
+        ("no blocks", 12, 0, HeaderFault::NoTotal, "DBTTLBLK0"),
+        ("two blocks", 12, 2, HeaderFault::Limit, "GDSLIMIT"),
+        (
+            "growth by 63 blocks",
+            20,
+            63,
+            HeaderFault::Limit,
+            "GDSLIMIT",
+        ),
+        ("too many blocks", 26, 0x11, HeaderFault::Limit, "GDSLIMIT"),
+        ("keys of 2 bytes", 28, 2, HeaderFault::Limit, "GDSLIMIT"),
+        (
+            "values above a block",
+            33,
+            4,
+            HeaderFault::Limit,
+            "GDSLIMIT",
+        ),
     ];
-    for (at, byte, fault, name) in changes {
+    for (label, at, byte, fault, name) in rows {
         let header = Header::read(&header_with(at, byte, 2));
-        assert_eq!(rt; header.err(), Some(fault), "{byte} at {at}");
-        assert_eq!(rt; HeaderKind::from(fault).name(), name);
+        assert_eq!(rt; header.err(), Some(fault), "{label}");
+        assert_eq!(rt; HeaderKind::from(fault).name(), name, "{label}");
     }
 }
 

@@ -2,20 +2,21 @@ ghost use Rattle.std.specs.Prelude.{◌≡◌, ◌≤◌, [], ◌∷◌, length,
 ghost use Rattle.gds_block.specs.Item.{Item};
 ghost use Rattle.gds_pack.specs.Entry.{item, items};
 
-use super::*;
+use fixtures::{FixtureError, block, star};
 use gds_block::BlockView;
+use gds_pack::{Entry, cut_to_fit, pack, packed_size, unpack};
 use m_key::join_key;
 use std::alloc::{AllocError, Global};
 use std::test::Fail;
 
-// The block of `^A="x"` and `^A(1)="y"`, with bytes behind its used count.
+/// The block of `^A="x"` and `^A(1)="y"`, with bytes behind its used count.
 const DATA: [u8; 36] = [
     0x01, 0x00, 0x00, 0x00, 0x21, 0x00, 0x00, 0x00, 0x02, 0x00, 0x00, 0x00, 0x00, 0x00, 0x00, 0x00,
     0x08, 0x00, 0x00, 0x00, 0x41, 0x00, 0x00, 0x78, 0x09, 0x00, 0x02, 0x00, 0xBF, 0x11, 0x00, 0x00,
     0x79, 0x00, 0x00, 0x00,
 ];
 
-// A block of level 1 with `^A` to block 3 and a star to block 4.
+/// A block of level 1 with `^A` to block 3 and a star to block 4.
 const INDEX: [u8; 35] = [
     0x01, 0x00, 0x00, 0x01, 0x23, 0x00, 0x00, 0x00, 0x01, 0x00, 0x00, 0x00, 0x00, 0x00, 0x00, 0x00,
     0x0B, 0x00, 0x00, 0x00, 0x41, 0x00, 0x00, 0x03, 0x00, 0x00, 0x00, 0x08, 0x00, 0x00, 0x00, 0x04,
@@ -80,20 +81,84 @@ fn packs_and_unpacks_an_index_block(rt: HostRuntime) -> Result<(), Fail> {
 }
 
 #[test]
-fn refuses_records_that_cannot_be_read(rt: HostRuntime) -> Result<(), Fail> {
-    for (place, byte, is_read) in [
-        (26, 1, true),
-        (26, 3, false),
-        (18, 1, false),
-        (22, 1, false),
-        (4, 34, false),
-        (4, 24, true),
-    ] {
+fn reads_a_block_whose_records_can_be_read(rt: HostRuntime) -> Result<(), Fail> {
+    let rows = [
+        ("a count below the key before", 26, 1, true),
+        ("a count of the whole key before", 26, 3, false),
+        ("a count in the first record", 18, 1, false),
+        ("a key without an end", 22, 1, false),
+        ("a byte behind the last record", 4, 34, false),
+        ("the first record alone", 4, 24, true),
+        ("no record", 4, 16, true),
+        ("the same bytes above level 0", 3, 1, false),
+    ];
+    for (label, place, byte, is_read) in rows {
         let mut bytes = DATA;
         bytes[place] = byte;
         let block = BlockView::new(&bytes).ok_or("a block")?;
         let found = unpack(rt.alloc(), &block)?;
-        assert_eq!(rt; found.is_some(), is_read, "{byte} at {place}");
+        assert_eq!(rt; found.is_some(), is_read, "{label}");
+    }
+    Ok(())
+}
+
+#[test]
+fn an_index_block_has_pointers_and_a_star(rt: HostRuntime) -> Result<(), Fail> {
+    let key: &[u8] = b"A\0\0\x03\0\0\0";
+    let pointer: &[u8] = b"\x04\0\0\0";
+    let rows: [(&str, Result<[u8; 64], FixtureError>, bool); 9] = [
+        (
+            "a key and a star",
+            block(1, 1, &[(0, key), (0, pointer)]),
+            true,
+        ),
+        ("a star alone", star(1, 1, 2), true),
+        ("a star alone at level 7", star(7, 1, 2), true),
+        ("no record", block(1, 1, &[]), false),
+        ("no star", block(1, 1, &[(0, key)]), false),
+        (
+            "a star with a count",
+            block(1, 1, &[(0, key), (1, pointer)]),
+            false,
+        ),
+        (
+            "a star before the last",
+            block(1, 1, &[(0, pointer), (0, pointer)]),
+            false,
+        ),
+        (
+            "a rest of 3 bytes",
+            block(1, 1, &[(0, b"A\0\0\x03\0\0"), (0, pointer)]),
+            false,
+        ),
+        (
+            "a rest of 5 bytes",
+            block(1, 1, &[(0, b"A\0\0\x03\0\0\0\0"), (0, pointer)]),
+            false,
+        ),
+    ];
+    for (label, bytes, is_read) in rows {
+        let bytes = bytes?;
+        let block = BlockView::new(&bytes).ok_or("a block")?;
+        let found = unpack(rt.alloc(), &block)?;
+        assert_eq!(rt; found.is_some(), is_read, "{label}");
+    }
+    Ok(())
+}
+
+#[test]
+fn a_leaf_has_any_rests(rt: HostRuntime) -> Result<(), Fail> {
+    let rows: [(&str, &[u8], usize); 3] = [
+        ("no byte", b"A\0\0", 0),
+        ("a pointer's bytes", b"A\0\0\x03\0\0\0", 4),
+        ("more bytes", b"A\0\0\x03\0\0\0\0", 5),
+    ];
+    for (label, body, len) in rows {
+        let bytes = block::<64>(0, 1, &[(0, body)])?;
+        let block = BlockView::new(&bytes).ok_or("a block")?;
+        let found = unpack(rt.alloc(), &block)?.ok_or("its entries")?;
+        assert_eq!(rt; found.len(), 1, "{label}");
+        assert_eq!(rt; found[0].rest.len(), len, "{label}");
     }
     Ok(())
 }

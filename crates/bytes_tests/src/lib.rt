@@ -1,0 +1,13 @@
+//! Tests of the crates of bytes: headers, blocks, maps and packed blocks, and of the fixtures.
+#![tactic(auto)]
+
+#[cfg(test)]
+mod blocks;
+#[cfg(test)]
+mod headers;
+#[cfg(test)]
+mod maps;
+#[cfg(test)]
+mod packs;
+#[cfg(test)]
+mod small_file;
