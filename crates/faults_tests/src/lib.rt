@@ -1,4 +1,4 @@
-//! Tests of the law of faults, and of INTEG of one block.
+//! Tests of the law of faults, of INTEG of one block, and of the walk of the trees.
 #![tactic(auto)]
 
 #[cfg(test)]
@@ -9,3 +9,7 @@ mod kinds;
 mod rows;
 #[cfg(test)]
 mod sink;
+#[cfg(test)]
+mod units;
+#[cfg(test)]
+mod walks;

@@ -1,5 +1,6 @@
 -- Paths that stand before others, with all that go on from them.
-use Rattle.std.proofs.Common.{◌≡◌, ℕ, ◌<◌, List, [], ◌∷◌, ◌++◌, ◌⊎◌, inl, inr, Less, nat_cmp, refl, sym, ap, subst, ◌∙◌, append_assoc}
+use Rattle.std.proofs.Common.{◌≡◌, ℕ, ◌<◌, [], ◌∷◌, ◌++◌, ◌⊎◌, inl, inr, Less, nat_cmp, refl, sym, ap, subst, ◌∙◌}
+use Rattle.std.proofs.Common.{append_assoc}
 use Rattle.std.specs.Ordering.{ordering_then}
 use Rattle.std.proofs.lemmas.Cmp.{tied_itself}
 use Rattle.std.proofs.lemmas.List.{append-nil}
@@ -48,4 +49,5 @@ ahead_below p q h = subst (λ x. path_cmp x q ≡ Less) (append-nil p) (h [])
 -- A path stands before what goes on from it.
 pub below_longer : (p : Steps) (s : ℕ × ℕ) (t : Steps) → path_cmp p (p ++ s ∷ t) ≡ Less
 below_longer [] s t = refl
-below_longer (u ∷ p) s t = ap (λ o. ordering_then o (path_cmp p (p ++ s ∷ t))) (tied_itself step_total u) ∙ below_longer p s t
+below_longer (u ∷ p) s t = ap (λ o. ordering_then o (path_cmp p (p ++ s ∷ t))) (tied_itself step_total u)
+    ∙ below_longer p s t

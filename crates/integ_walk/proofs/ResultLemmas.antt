@@ -23,6 +23,7 @@ module _ {T E : Type 0} where
   only_err (Ok x) y P Q e h = absurd (cc)
   only_err (Err x) y P Q e h = (tt, h)
 
-  pub either : (r : Result T E) (P Q : Type 0) → ((x : T) → r ≡ Ok x → P) → ((y : E) → r ≡ Err y → Q) → OnOk r P × OnErr r Q
+  pub either : (r : Result T E) (P Q : Type 0) → ((x : T) → r ≡ Ok x → P) → ((y : E) → r ≡ Err y → Q)
+      → OnOk r P × OnErr r Q
   either (Ok x) P Q f g = (f x refl, tt)
   either (Err y) P Q f g = (tt, g y refl)

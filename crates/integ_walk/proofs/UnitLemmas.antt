@@ -1,10 +1,11 @@
 -- The blocks of a file whose header can be read, as its units.
-use Rattle.std.proofs.Common.{◌≡◌, ℕ, ◌+◌, ◌-◌, ◌*◌, ◌<◌, ◌≤◌, ◌==◌, Bool, true, false, ◌||◌, List, [], ◌∷◌, length, take, drop, filter, find, Option, None, Some, inl, inr, refl, sym, ap, subst, ◌∙◌, arith, mul-le-mul_right, if◌then◌else◌}
+use Rattle.std.proofs.Common.{◌≡◌, ℕ, ◌+◌, ◌-◌, ◌*◌, ◌<◌, ◌≤◌, ◌==◌, Bool, true, false, ◌||◌, List, [], ◌∷◌, length}
+use Rattle.std.proofs.Common.{take, drop, filter, find, None, Some, inl, inr, refl, sym, ◌∙◌, arith}
+use Rattle.std.proofs.Common.{mul-le-mul_right, if◌then◌else◌}
 use Rattle.std.specs.Int.{w32, from_le_bytes}
 use Rattle.std.specs.List.{list_any}
 use Rattle.std.proofs.lemmas.Bool.{ltb-false, ne_eqb, cond-false}
 use Rattle.host_model.specs.Units.{IsUnit, block_length, unit_length, unit_place, unit_bytes}
-use Rattle.gds_header.specs.declared.header.Header.{Header}
 use Rattle.gds_header.specs.declared.kind.HeaderKind.TheVariants.{ShortFile}
 use Rattle.gds_block.specs.Fields.{u32_at}
 use Rattle.gds_header.specs.Fields.{fields_of, image_length, place_of, block_of}
@@ -15,7 +16,8 @@ none_found : {A : Type 0} (test : A → Bool) (xs : List A) → find test xs ≡
 none_found test [] h = refl
 none_found {A} test (x ∷ xs) h = by (test x) h (none_found test xs)
   where
-    by : (t : Bool) → (if t then Some x else find test xs) ≡ None → (find test xs ≡ None → list_any test xs ≡ false) → (t || list_any test xs) ≡ false
+    by : (t : Bool) → (if t then Some x else find test xs) ≡ None → (find test xs ≡ None → list_any test xs ≡ false)
+        → (t || list_any test xs) ≡ false
     by true e next = absurd (cc)
     by false e next = next e
 
@@ -53,7 +55,8 @@ place_at file block =
 pub unit_is : (file : List ℕ) (block : ℕ) → unit_bytes file (block + 1) ≡ block_of file block
 unit_is file block = λ i. take (length_at file block i) (drop (place_at file block i) file)
 
-pub is_unit : (file : List ℕ) (block n : ℕ) → ending_kind file ≡ None → block < (fields_of file).total → n ≡ (fields_of file).block_size → IsUnit file (block + 1) n
+pub is_unit : (file : List ℕ) (block n : ℕ) → ending_kind file ≡ None → block < (fields_of file).total
+    → n ≡ (fields_of file).block_size → IsUnit file (block + 1) n
 is_unit file block n h low same = record {
   length_is = same ∙ sym (length_at file block);
   within =

@@ -20,4 +20,9 @@ unfoldable pub all_links : List Frame → List walk.Link
 all_links frames = flat_map links_in (reverse frames)
 
 abbrev pub state_of : Walker → State
-state_of w = record { header = w.header.now; used = w.used.bytes.items; count = w.faults; links = all_links w.frames.items }
+state_of w = record {
+  header = w.header.now;
+  used = w.used.bytes.items;
+  count = w.faults;
+  links = all_links w.frames.items;
+}

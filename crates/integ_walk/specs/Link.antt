@@ -28,5 +28,10 @@ links_at image path v = links_of path v.block (level_of (block_of image v.block)
 
 -- the fault of a link to a block in which an earlier path ends
 abbrev pub double_of : Link → Fault
-double_of link =
-    record { kind = DoublyAllocated; block = link.block; offset = link.child.offset; level = link.level; path = link.path }
+double_of link = record {
+  kind = DoublyAllocated;
+  block = link.block;
+  offset = link.child.offset;
+  level = link.level;
+  path = link.path;
+}

@@ -1,5 +1,5 @@
 -- How far a walk has come: which of the reached paths were followed, and what is known then.
-use Rattle.std.specs.Prelude.{◌≡◌, ◌↔◌, ℕ, ⊤, Bool, true, List, [], ◌∷◌, ◌++◌, length, flat_map, Some, Contains}
+use Rattle.std.specs.Prelude.{◌≡◌, ◌↔◌, ℕ, ⊤, Bool, true, List, [], ◌∷◌, ◌++◌, flat_map, Some, Contains}
 use Rattle.std.specs.declared.cmp.Ordering.TheVariants.{Less}
 use Rattle.gds_block.specs.Block.{level_of}
 use Rattle.gds_header.specs.Fields.{block_of}
@@ -19,7 +19,8 @@ IsAhead p q = (rest : Steps) → path_cmp (p ++ rest) q ≡ Less
 
 abbrev pub AreInOrder : List Link → Type 0
 AreInOrder [] = ⊤
-AreInOrder (link ∷ links) = ((later : Link) → Contains links later → IsAhead (path_to link) (path_to later)) × AreInOrder links
+AreInOrder (link ∷ links) =
+    ((later : Link) → Contains links later → IsAhead (path_to link) (path_to later)) × AreInOrder links
 
 -- The link is one of this file's: it leads on to one of these paths, and has its block's level.
 pub record IsLinkTo (image : List ℕ) (rest : List Steps) (link : Link) : Type 0 where
@@ -38,7 +39,8 @@ pub record EndsIn (image : List ℕ) (kept paths : List Steps) (block : ℕ) : T
 
 -- Some of the reached paths were followed, from the front on. These faults stand there, and the marked blocks are those
 -- that kept ones of them end in. The links lead on to all the others.
-pub record HasCome (image : List ℕ) (kept reached : List Steps) (faults : List Fault) (marked : ℕ → Bool) (links : List Link) : Type 0 where
+pub record HasCome (image : List ℕ) (kept reached : List Steps) (faults : List Fault) (marked : ℕ → Bool)
+    (links : List Link) : Type 0 where
   pub done : List Steps
   pub rest : List Steps
   pub parts : reached ≡ done ++ rest

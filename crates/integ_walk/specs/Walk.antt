@@ -17,8 +17,8 @@ pub record IsHeaderOf (header : Header) (image : List ℕ) : Type 0 where
   pub readable : ending_kind image ≡ None
   pub same : header ≡ fields_of image
 
--- The list had the old faults and has the new ones, which are the trees'. So many they are, and the set has those blocks
--- that kept paths end in.
+-- The list had the old faults and has the new ones, which are the trees'. So many they are, and the set has those
+-- blocks that kept paths end in.
 pub record IsWalked (image : List ℕ) (old new : List Fault) (used : List ℕ) (count : ℕ) : Type 0 where
   pub kept : List Steps
   pub reached : List Steps
@@ -31,13 +31,14 @@ pub record IsWalked (image : List ℕ) (old new : List Fault) (used : List ℕ) 
 -- Some of the first of the trees' faults stand behind the old ones.
 abbrev pub IsWalkedInPart : List ℕ → List Fault → List Fault → Type 0
 IsWalkedInPart image old new =
-    (kept reached : List Steps) → AreKept image kept → AreReached image kept reached → IsCut old new (tree_faults image kept reached)
+    (kept reached : List Steps) → AreKept image kept → AreReached image kept reached
+    → IsCut old new (tree_faults image kept reached)
 
 -- What a call leaves of a source of units and of a sink: the source tells what it told before, and no count of failures
--- fell. A count rose where the call says that the source or the sink failed, and that a unit has changed it says only where
--- the source doesn't tell.
-pub record HasCause {U F T : Type 0} (told : U → Option (List ℕ)) (reads : U → ℕ) (says : F → ℕ) (old new : U) (before now : F)
-    (result : Result T IntegError) : Type 0 where
+-- fell. A count rose where the call says that the source or the sink failed, and that a unit has changed it says only
+-- where the source doesn't tell.
+pub record HasCause {U F T : Type 0} (told : U → Option (List ℕ)) (reads : U → ℕ) (says : F → ℕ)
+    (old new : U) (before now : F) (result : Result T IntegError) : Type 0 where
   pub image : told new ≡ told old
   pub read : reads old ≤ reads new
   pub read_fault : IsErrOf result ReadFault → Rose (reads old) (reads new)

@@ -1,5 +1,5 @@
--- The state of a walk: the header, the bytes of its set of blocks, the count of its faults and the links that are still to
--- be followed.
+-- The state of a walk: the header, the bytes of its set of blocks, the count of its faults and the links that are still
+-- to be followed.
 use Rattle.std.specs.Prelude.{◌≡◌, ◌<◌, ◌≤◌, ◌+◌, ◌*◌, ◌/◌, ℕ, List, ◌∷◌, ◌++◌, length, Contains, Result, OnOk, OnErr}
 use Rattle.gds_block.specs.Block.{level_of}
 use Rattle.gds_header.specs.declared.header.Header.{Header}
@@ -60,13 +60,14 @@ pub record IsOn (image : List ℕ) (kept reached : List Steps) (old new : List F
   pub counted : s.count ≡ length faults
   pub come : HasCome image kept reached faults (has_block s.used) s.links
 
--- A part of a walk of this file, from one state and list of faults to others. Where it is refused, some of the first of all
--- its faults were told since the start.
+-- A part of a walk of this file, from one state and list of faults to others. Where it is refused, some of the first of
+-- all its faults were told since the start.
 abbrev pub ComesOn : {T E : Type 0} → List ℕ → List Fault → State → List Fault → State → Result T E → Type 0
 ComesOn image old s new t result =
     (kept reached : List Steps) (start : List Fault) → AreKept image kept → AreReached image kept reached
     → IsOn image kept reached start old s
-    → OnOk result (IsOn image kept reached start new t) × OnErr result (IsCut start new (tree_faults image kept reached))
+    → OnOk result (IsOn image kept reached start new t)
+    × OnErr result (IsCut start new (tree_faults image kept reached))
 
 -- The same of the part with which a walk begins.
 abbrev pub Begins : {T E : Type 0} → List ℕ → List Fault → List Fault → State → Result T E → Type 0

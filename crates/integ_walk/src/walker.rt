@@ -1,16 +1,17 @@
-ghost use Rattle.std.specs.Prelude.{◌≡◌, ◌<◌, ◌≤◌, ◌+◌, ◌/◌, ◌^◌, ◌++◌, [], ℕ, List, length, map, true, false, None, option_map, IfOk, OnOk, IsErrOf};
+ghost use Rattle.std.specs.Prelude.{◌≡◌, ◌<◌, ◌≤◌, ◌+◌, ◌/◌, ◌^◌, ◌++◌, [], ℕ, length, map, true, false, None};
+ghost use Rattle.std.specs.Prelude.{IfOk, OnOk, IsErrOf};
+ghost use Rattle.std.specs.Option.{ForSome};
 ghost use Rattle.host_model.specs.Failures.{Rose};
 ghost use Rattle.gds_block.specs.Block.{level_of};
-ghost use Rattle.integ_block.specs.Child.{child_of};
-ghost use Rattle.integ_walk.specs.Link.{links_of};
-ghost use Rattle.std.specs.Option.{option_to_list, ForSome};
 ghost use Rattle.gds_header.specs.Fields.{block_of};
 ghost use Rattle.gds_header.specs.Kinds.{IsWithinLimits};
 ghost use Rattle.gds_law.specs.Block.{faults_of_block};
 ghost use Rattle.gds_law.specs.Sink.{Grew};
 ghost use Rattle.gds_law.specs.Visit.{visit_of};
+ghost use Rattle.integ_block.specs.Child.{child_of};
 ghost use Rattle.integ_walk.specs.BlockSet.{has_block};
 ghost use Rattle.integ_walk.specs.Frame.{link_of, state_of};
+ghost use Rattle.integ_walk.specs.Link.{links_of};
 ghost use Rattle.integ_walk.specs.Walk.{HasCause, IsHeaderOf};
 ghost use Rattle.integ_walk.specs.Walker.{Begins, ComesOn, IsState, entered, most_of_block, with_link, work_left};
 
@@ -107,7 +108,8 @@ impl<'a> Walker<'a> {
         requires buffer { length self.old.block.items ≡ self.old.header.now.block_size }
         requires header { ForSome (U.image units.old) (IsHeaderOf self.old.header.now) }
         ensures state { OnOk result (IsState (state_of self.new)) }
-        ensures less { IfOk result (λ more. more ≡ true → work_left (state_of self.new) < work_left (state_of self.old)) }
+        ensures less { IfOk result
+            (λ more. more ≡ true → work_left (state_of self.new) < work_left (state_of self.old)) }
         ensures end { IfOk result (λ more. more ≡ false → (state_of self.new).links ≡ []) }
         ensures buffer { length self.new.block.items ≡ length self.old.block.items }
         ensures header { self.new.header.now ≡ self.old.header.now }

@@ -11,7 +11,8 @@ invariant-loop-walker g l = record {
   state : IsState (state_of l.walker);
   buffer : length l.walker.block.items ≡ l.walker.header.now.block_size;
   header : l.walker.header.now ≡ l.fn.header;
-  on : ForSome (g.U.UnitSource.image l.fn.units) (λ file. (kept reached : List Steps) → AreKept file kept → AreReached file kept reached
+  on : ForSome (g.U.UnitSource.image l.fn.units) (λ file. (kept reached : List Steps) → AreKept file kept
+      → AreReached file kept reached
       → IsOn file kept reached (g.F.FaultSink.listed l.fn.sink) (g.F.FaultSink.listed l.sink) (state_of l.walker));
   image : g.U.UnitSource.image l.units ≡ g.U.UnitSource.image l.fn.units;
   read : g.U.UnitSource.failures l.fn.units ≤ g.U.UnitSource.failures l.units;

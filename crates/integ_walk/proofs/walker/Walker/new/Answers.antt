@@ -1,4 +1,4 @@
-use Rattle.std.proofs.Common.{refl, ap, sym, ◌∙◌}
+use Rattle.std.proofs.Common.{ap}
 use Rattle.integ_walk.specs.Frame.{all_links}
 use Rattle.integ_walk.proofs.walker.Walker.new.Goals as goal
 

@@ -1,0 +1,64 @@
+ghost use Rattle.std.specs.Prelude.{◌≡◌};
+
+use fixtures::Image;
+use gds_header::HEADER_LENGTH;
+use host_model::{UnitSource, UnitTrouble};
+
+/// The units of a file in memory, which tells nothing and fails from some read on.
+#[derive(Drop)]
+pub(crate) struct Units {
+    image: Image,
+    /// How many reads are left before they fail.
+    reads: u64,
+    failures: u64,
+}
+
+impl Units {
+    pub(crate) fn new(image: Image) -> Units {
+        Units {
+            image,
+            reads: u64::MAX,
+            failures: 0,
+        }
+    }
+
+    /// Lets so many reads pass and fails all others.
+    pub(crate) fn fail_after(&mut self, reads: u64) {
+        self.reads = reads;
+    }
+
+    pub(crate) fn failures(&self) -> u64 {
+        self.failures
+    }
+}
+
+impl UnitSource for Units {
+    ghost use Rattle.std.specs.Prelude.{None};
+
+    ghost image = { λ _. None };
+
+    ghost failures = { λ units. units.failures };
+
+    fn length(&mut self) -> Result<u64, UnitTrouble> {
+        Ok(self.image.bytes().len() as u64)
+    }
+
+    fn unit(&mut self, unit: u32, out: &mut [u8]) -> Result<(), UnitTrouble> {
+        let Some(left) = self.reads.checked_sub(1) else {
+            self.failures = self.failures.saturating_add(1);
+            return Err(UnitTrouble::Failed);
+        };
+        self.reads = left;
+        let place = match (unit as usize).checked_sub(1) {
+            None => 0,
+            Some(block) => HEADER_LENGTH.saturating_add(block.saturating_mul(out.len())),
+        };
+        match self.image.bytes().get(place..place.saturating_add(out.len())) {
+            Some(bytes) => {
+                out.copy_from_slice(bytes);
+                Ok(())
+            }
+            None => Err(UnitTrouble::Changed { unit }),
+        }
+    }
+}
