@@ -53,7 +53,11 @@ impl UnitSource for Units {
             None => 0,
             Some(block) => HEADER_LENGTH.saturating_add(block.saturating_mul(out.len())),
         };
-        match self.image.bytes().get(place..place.saturating_add(out.len())) {
+        match self
+            .image
+            .bytes()
+            .get(place..place.saturating_add(out.len()))
+        {
             Some(bytes) => {
                 out.copy_from_slice(bytes);
                 Ok(())

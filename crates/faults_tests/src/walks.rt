@@ -59,7 +59,10 @@ fn tells_a_second_path_once(rt: HostRuntime) -> Result<(), Fail> {
     let seen = walk(rt.alloc(), &mut units, &header(), &mut sink)?;
     assert_eq!(rt; (seen.faults, sink.faults.len()), (1, 1));
     // Blocks 1, 2, 3 and 5.
-    assert_eq!(rt; seen.used.as_slice(), [0x2E, 0, 0, 0, 0, 0, 0, 0, 0, 0, 0, 0, 0].as_slice());
+    assert_eq!(rt;
+        seen.used.as_slice(),
+        [0x2E, 0, 0, 0, 0, 0, 0, 0, 0, 0, 0, 0, 0].as_slice()
+    );
     for fault in &sink.faults {
         assert_eq!(rt; fault.kind.name(), "DBBDBALLOC");
         assert_eq!(rt; (fault.block, fault.offset, fault.level), (3, 0x1E, 1));
@@ -83,7 +86,11 @@ fn tells_each_fault_in_its_place(rt: HostRuntime) -> Result<(), Fail> {
     ];
     let data = leaf(2, &[(b"A\0\0", b"x")])?;
     let low = leaf(1, &[(b"C\0\0", b"x")])?;
-    let image = file(rt.alloc(), &names, &[(3, star(1, 1, 5)?), (4, low), (5, data)])?;
+    let image = file(
+        rt.alloc(),
+        &names,
+        &[(3, star(1, 1, 5)?), (4, low), (5, data)],
+    )?;
     let mut units = Units::new(image);
     let mut sink = with_room(rt.alloc(), 9);
     let seen = walk(rt.alloc(), &mut units, &header(), &mut sink)?;

@@ -30,8 +30,8 @@ module _ (b : BlockReading) (bytes : List ℕ) (at : ℕ) (previous : List ℕ) 
       → kinds_from b bytes at previous (r ∷ rs) ≡ kinds_from b bytes next key rs
   kinds_from-clean next key clean e k =
       ap (λ ks. map (λ kind. (r.offset, kind)) ks
-          ++ (if is_ended b here then [] else kinds_from b bytes (r.offset + size_of here) (key_of b here) rs))
-          (kinds_of-clean b here clean)
+      ++ (if is_ended b here then [] else kinds_from b bytes (r.offset + size_of here) (key_of b here) rs))
+      (kinds_of-clean b here clean)
       ∙ cond-false (is_ended b here) _ _ (is_ended-clean b here clean)
       ∙ ap (λ n. kinds_from b bytes n (key_of b here) rs) e
       ∙ ap (λ x. kinds_from b bytes next x rs) k
@@ -130,7 +130,7 @@ pub GoesOn-end : (b : BlockReading) (bytes rest key : List ℕ) → GoesOn b byt
 GoesOn-end b bytes rest key g e above =
     g.told above
     ∙ ap (λ xs. kinds_from b bytes (used_of bytes - length rest) key (records_from 0 (used_of bytes - length rest) xs))
-        e
+    e
     ∙ ap (λ xs. map (λ kind. (used_of bytes - length rest, kind)) (size_kinds b.level xs)) (sym g.left ∙ e)
 
 -- ---- as the program reads them
@@ -147,9 +147,9 @@ pub IsReadTo-first : (leaf : Leaf) (left key more body : List ℕ) (count : ℕ)
 IsReadTo-first leaf left key more body count front first follows below = record {
   right = follows.right;
   goes_on = λ b bytes r.
-    GoesOn-first b bytes leaf.name.now key left body more count r.level r.role r.height r.records r.used front first
-    (subst (λ h. Follows h leaf.name.now [] count body key) (sym r.header) follows)
-    (ap (λ low. is_below_bound 0 low key) r.low ∙ below);
+      GoesOn-first b bytes leaf.name.now key left body more count r.level r.role r.height r.records r.used front first
+      (subst (λ h. Follows h leaf.name.now [] count body key) (sym r.header) follows)
+      (ap (λ low. is_below_bound 0 low key) r.low ∙ below);
 }
 
 pub IsReadTo-next : (leaf : Leaf) (left previous key rest more body : List ℕ) (count : ℕ)
@@ -158,8 +158,8 @@ pub IsReadTo-next : (leaf : Leaf) (left previous key rest more body : List ℕ) 
 IsReadTo-next leaf left previous key rest more body count is front less follows = record {
   right = follows.right;
   goes_on = λ b bytes r.
-    GoesOn-next b bytes leaf.name.now previous key rest body more count r.level r.role (is.goes_on b bytes r) front less
-    (subst (λ h. Follows h leaf.name.now previous count body key) (sym r.header) follows);
+      GoesOn-next b bytes leaf.name.now previous key rest body more count r.level r.role (is.goes_on b bytes r) front less
+      (subst (λ h. Follows h leaf.name.now previous count body key) (sym r.header) follows);
 }
 
 pub IsReadTo-end : (leaf : Leaf) (left rest key : List ℕ) → IsReadTo leaf left rest key → length rest ≡ 0
@@ -167,4 +167,4 @@ pub IsReadTo-end : (leaf : Leaf) (left rest key : List ℕ) → IsReadTo leaf le
     → (b : BlockReading) (bytes : List ℕ) → Reads leaf b bytes left → kinds_from b bytes 16 [] (records_of bytes) ≡ []
 IsReadTo-end leaf left rest key is none above b bytes r =
     GoesOn-end b bytes rest key (is.goes_on b bytes r) (nil_from_length rest none)
-        (ap (λ high. is_above_bound high key) r.high ∙ above)
+    (ap (λ high. is_above_bound high key) r.high ∙ above)

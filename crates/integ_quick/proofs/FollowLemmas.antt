@@ -45,10 +45,10 @@ some_key (b ∷ name) rest = refl
 pub Follows-first : (header : Header) (name old : List ℕ) (count : ℕ) (body key : List ℕ) → is_name name ≡ true
     → old ≡ [] → EndsIn header old count body key → HasFew key
     → count ≡ 0 → key ≡ name ++ 0 ∷ drop (length name + 1) key → AreSubscripts (drop (length name + 1) key)
-        → Follows header name [] count body key
+    → Follows header name [] count body key
 Follows-first header name old count body key named none ending has_few first whole subscripts =
     follows header name [] count body key named (subst (λ xs. EndsIn header xs count body key) none ending) has_few
-        first
+    first
     (ap (is_below []) whole ∙ some_key name _)
     (record { rest = drop (length name + 1) key; whole = whole; subscripts = subscripts })
 
@@ -94,7 +94,7 @@ module _ (header : Header) (name previous : List ℕ) (count : ℕ) (body key : 
   pub Follows-next : is_name name ≡ true → HasFew key → (k : IsKeyOf name previous) → length name < count
       → (start : ℕ) → (bytes : List ℕ) → bytes ≡ take (count - (length name + 1)) (drop (length name + 1) previous)
       → start ≤ length bytes → IsStart bytes start → AreSubscripts (drop (length name + 1 + start) key)
-          → Follows header name previous count body key
+      → Follows header name previous count body key
   Follows-next named has_few k behind start bytes is within at subscripts =
       follows header name previous count body key named ending has_few shares rises
       (record {

@@ -27,15 +27,26 @@ module _ (h : Header) (v : Visit) (bytes : List ℕ) (whole : length bytes ≡ h
   within = omega (arith, head.within)
 
   none_hold : AllByRecursion (λ k. head_holds b bytes k ≡ false) head_kinds
-  none_hold =
-      (or_from (not (version_of bytes == 1)) (not (reserved_of bytes == 0))
-      (ap not (eq-eqb _ _ head.version)) (ap not (eq-eqb _ _ head.reserved)),
-      (lt-leb h.tn (tn_of bytes) head.tn,
-      (le-ltb (used_of bytes) 16 (omega (arith, head.some)),
-      (le-ltb h.block_size (used_of bytes) within,
-      (and_left (is_none v.level) (level_of bytes == 0) (ap is_none head.due_level),
-      (ap (λ due. is_wrong_level due (level_of bytes)) head.due_level ∙ ap not (eq-eqb _ _ head.level),
-      (and_left (used_of bytes == 16) (not (may_be_empty b)) (ne_eqb _ _ (λ e. omega (arith, head.some, e))), tt)))))))
+  none_hold = (
+    or_from (not (version_of bytes == 1)) (not (reserved_of bytes == 0))
+        (ap not (eq-eqb _ _ head.version)) (ap not (eq-eqb _ _ head.reserved)),
+    (
+      lt-leb h.tn (tn_of bytes) head.tn,
+      (
+        le-ltb (used_of bytes) 16 (omega (arith, head.some)),
+        (
+          le-ltb h.block_size (used_of bytes) within,
+          (
+            and_left (is_none v.level) (level_of bytes == 0) (ap is_none head.due_level),
+            (
+              ap (λ due. is_wrong_level due (level_of bytes)) head.due_level ∙ ap not (eq-eqb _ _ head.level),
+              (and_left (used_of bytes == 16) (not (may_be_empty b)) (ne_eqb _ _ (λ e. omega (arith, head.some, e))), tt),
+            ),
+          ),
+        ),
+      ),
+    ),
+  )
 
   kinds_of_head-none : kinds_of_head b bytes ≡ []
   unfolding kinds_of_head
@@ -45,7 +56,7 @@ module _ (h : Header) (v : Visit) (bytes : List ℕ) (whole : length bytes ≡ h
   unfolding kinds_of_block
   kinds_of_block-none none =
       ap (λ ks. map (λ kind. (0, kind)) ks
-          ++ (if list_any ends ks then [] else kinds_from b bytes 16 [] (records_of bytes))) kinds_of_head-none ∙ none
+      ++ (if list_any ends ks then [] else kinds_from b bytes 16 [] (records_of bytes))) kinds_of_head-none ∙ none
 
   pub children_of-none : (name : List ℕ) → v.role ≡ global name → children_of h v bytes ≡ []
   unfolding children_of

@@ -67,31 +67,72 @@ module _ (b : BlockReading) (s : PlacedRecord) where
     no_pointer test = ap (λ o. option_map_or test o false) (pointer_of-none clean.not_last clean.points)
 
     none_hold : AllByRecursion (λ k. holds b s k ≡ false) record_kinds
-    none_hold =
-        (as_keyed StarSize refl (no_fault StarSize),
-        (as_keyed StarCount refl (no_fault StarCount),
-        (as_keyed FirstCount refl clean.first_count,
-        (as_keyed CountTooLarge refl clean.later_count,
-        (as_keyed KeyTooLong refl clean.not_long,
-        (as_keyed KeyWithoutEnd refl clean.with_end,
-        (as_keyed WrongCount refl clean.count,
-        (as_keyed KeyOutOfOrder refl clean.order,
-        (as_keyed BadName refl (no_fault BadName),
-        (as_keyed TooManySubscripts refl (no_fault TooManySubscripts),
-        (as_keyed BadNumber refl (no_fault BadNumber),
-        (as_keyed BadString refl (no_fault BadString),
-        (as_keyed NullSubscript refl (no_fault NullSubscript),
-        (as_keyed DirectorySubscript refl (ap (λ t. t && is_none (key_fault (key_of b s))
-            && nat_lt 0 (length (subscript_parts (key_of b s)))) clean.role),
-        (as_keyed WrongGlobal refl clean.name,
-        (as_keyed KeyAboveBound refl clean.not_above,
-        (as_keyed KeyBelowBound refl clean.not_below,
-        (as_keyed RestNotPointer refl (ap (λ t. t && not (length (rest_of b s) == 4)) clean.points),
-        (as_keyed ValueTooLong refl (ap (λ t. not t && nat_lt b.header.value_max (length (rest_of b s))) clean.points
-            ∙ clean.value),
-        (no_pointer _,
-        (no_pointer _,
-        (no_pointer _, tt))))))))))))))))))))))
+    none_hold = (
+      as_keyed StarSize refl (no_fault StarSize),
+      (
+        as_keyed StarCount refl (no_fault StarCount),
+        (
+          as_keyed FirstCount refl clean.first_count,
+          (
+            as_keyed CountTooLarge refl clean.later_count,
+            (
+              as_keyed KeyTooLong refl clean.not_long,
+              (
+                as_keyed KeyWithoutEnd refl clean.with_end,
+                (
+                  as_keyed WrongCount refl clean.count,
+                  (
+                    as_keyed KeyOutOfOrder refl clean.order,
+                    (
+                      as_keyed BadName refl (no_fault BadName),
+                      (
+                        as_keyed TooManySubscripts refl (no_fault TooManySubscripts),
+                        (
+                          as_keyed BadNumber refl (no_fault BadNumber),
+                          (
+                            as_keyed BadString refl (no_fault BadString),
+                            (
+                              as_keyed NullSubscript refl (no_fault NullSubscript),
+                              (
+                                as_keyed DirectorySubscript refl (ap (λ t. t && is_none (key_fault (key_of b s))
+                                    && nat_lt 0 (length (subscript_parts (key_of b s)))) clean.role),
+                                (
+                                  as_keyed WrongGlobal refl clean.name,
+                                  (
+                                    as_keyed KeyAboveBound refl clean.not_above,
+                                    (
+                                      as_keyed KeyBelowBound refl clean.not_below,
+                                      (
+                                        as_keyed RestNotPointer refl (ap (λ t. t && not (length (rest_of b s) == 4)) clean.points),
+                                        (
+                                          as_keyed ValueTooLong refl (ap (λ t. not t && nat_lt b.header.value_max (length (rest_of b s))) clean.points
+                                              ∙ clean.value),
+                                          (
+                                            no_pointer _,
+                                            (
+                                              no_pointer _,
+                                              (no_pointer _, tt),
+                                            ),
+                                          ),
+                                        ),
+                                      ),
+                                    ),
+                                  ),
+                                ),
+                              ),
+                            ),
+                          ),
+                        ),
+                      ),
+                    ),
+                  ),
+                ),
+              ),
+            ),
+          ),
+        ),
+      ),
+    )
 
     pub kinds_of-clean : kinds_of b s ≡ []
     unfolding kinds_of
@@ -114,4 +155,4 @@ children_from-none b previous (r ∷ rs) level p =
     let last : is_last b s ≡ false = ap (λ n. nat_lt 0 n && (r.offset + size_of s == b.used)) level in
     if_none (is_ended b s) _
     (ap (λ o. child_to b s o ++ children_from b (key_of b s) rs) (pointer_of-none b s last p)
-        ∙ children_from-none b (key_of b s) rs level p)
+    ∙ children_from-none b (key_of b s) rs level p)

@@ -24,7 +24,7 @@ use Rattle.integ_quick.proofs.KindLemmas.{IsClean}
 key_len-take_more : (bytes : List ℕ) (m n : ℕ) → key_len bytes ≡ Some n → n ≤ m → key_len (take m bytes) ≡ Some n
 key_len-take_more bytes m n h le =
     let same : key_len (take n bytes) ≡ Some n = key_len-end_in (take n bytes)
-        ∙ end_in-take_same bytes false n (sym (key_len-end_in bytes) ∙ h) in
+    ∙ end_in-take_same bytes false n (sym (key_len-end_in bytes) ∙ h) in
     let front : take n (take m bytes) ≡ take n bytes = take-take n m bytes le in
     ap key_len (sym (take-append-drop n (take m bytes)) ∙ ap (λ xs. xs ++ drop n (take m bytes)) front)
     ∙ key_len-append (take n bytes) _ n same
@@ -76,8 +76,13 @@ module _ (b : BlockReading) (s : PlacedRecord) (placed : IsPlaced s) (fronts : H
   pub length-key : length key ≡ at
   length-key =
       ap length e.bytes
-      ∙ omega (arith, e.within, length-append front (take e.key_end s.record_.body), length-front,
-          length-take e.key_end s.record_.body)
+      ∙ omega (
+        arith,
+        e.within,
+        length-append front (take e.key_end s.record_.body),
+        length-front,
+        length-take e.key_end s.record_.body,
+      )
 
   pub key_of-is : key_of b s ≡ key
   key_of-is =

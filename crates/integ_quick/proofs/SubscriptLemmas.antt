@@ -28,8 +28,12 @@ use Rattle.integ_quick.specs.Subscripts.{IsRight, ended_before, AreSubscripts, I
 pub NoZero-name : (name : List ℕ) → is_name name ≡ true → NoZero name
 NoZero-name name h =
     let n : Node = record { name = name; subscripts = [] } in
-    keys.NoZero-name numbers n (record { name = (is_name-Decides name).0 h; count = omega arith; subscripts =
-        λ k d l. absurd (omega arith) })
+    keys.NoZero-name numbers n (record {
+      name = (is_name-Decides name).0 h;
+      count = omega arith;
+      subscripts =
+          λ k d l. absurd (omega arith);
+    })
 
 name_part-ended : (name rest : List ℕ) → NoZero name → name_part (name ++ 0 ∷ rest) ≡ name
 name_part-ended name rest h = name_part-append name rest
@@ -79,7 +83,7 @@ module _ (name key : List ℕ) (named : is_name name ≡ true) (k : IsKeyOf name
   pub key_fault-none : length k.subscripts.parts ≤ 31 → key_fault key ≡ None
   key_fault-none few =
       by_parts key (ap is_name name_part-key ∙ named) (let e : length (subscript_parts key) ≡ length ps =
-          ap length subscript_parts-key in omega arith)
+      ap length subscript_parts-key in omega arith)
       ∙ ap first_fault subscript_parts-key ∙ first_fault-none ps k.subscripts.right
 
 -- ---- how many there are
@@ -107,8 +111,12 @@ count-zero xs = sum_by-cons (λ x. cond (x == 0) 1 0) 0 xs
 zeros-ended : (ps : List (List ℕ)) → length ps + 1 ≤ count_by (λ b. b == 0) (ended_before ps (0 ∷ []))
 zeros-ended [] = omega arith
 zeros-ended (p ∷ ps) =
-    omega (arith, zeros-ended ps, count-append (λ b. b == 0) p (0 ∷ ended_before ps (0 ∷ [])),
-        count-zero (ended_before ps (0 ∷ [])))
+    omega (
+      arith,
+      zeros-ended ps,
+      count-append (λ b. b == 0) p (0 ∷ ended_before ps (0 ∷ [])),
+      count-zero (ended_before ps (0 ∷ [])),
+    )
 
 some_name : (name : List ℕ) → is_name name ≡ true → 1 ≤ length name
 some_name [] h = absurd (cc)
@@ -126,10 +134,13 @@ module _ (name key : List ℕ) (named : is_name name ≡ true) (k : IsKeyOf name
 
   pub few-counted : count_by (λ b. b == 0) key ≤ 33 → length k.subscripts.parts ≤ 31
   few-counted h =
-      omega
-      (arith, zeros-ended k.subscripts.parts,
-          count-append (λ b. b == 0) name (0 ∷ ended_before k.subscripts.parts (0 ∷ [])),
-          count-zero (ended_before k.subscripts.parts (0 ∷ [])), ap (count_by (λ b. b == 0)) whole)
+      omega (
+        arith,
+        zeros-ended k.subscripts.parts,
+        count-append (λ b. b == 0) name (0 ∷ ended_before k.subscripts.parts (0 ∷ [])),
+        count-zero (ended_before k.subscripts.parts (0 ∷ [])),
+        ap (count_by (λ b. b == 0)) whole,
+      )
 
 -- ---- other subscripts behind some of them
 
@@ -150,7 +161,7 @@ module _ (more : List ℕ) (new : AreSubscripts more) where
             let m : ℕ = n - length p in
             let size : suc n ≡ length p + suc m = omega arith in
             let bytes : take (suc n) (p ++ 0 ∷ rest) ≡ p ++ 0 ∷ take m rest = ap (λ i. take i (p ++ 0 ∷ rest)) size
-                ∙ front p m in
+            ∙ front p m in
             let start : IsStart rest m = at m (omega arith) (get_or-append_right p (0 ∷ rest) (length p) n 0 refl k) in
             subst AreSubscripts
             (sym (append_assoc p (0 ∷ take m rest) more) ∙ ap (λ xs. xs ++ more) (sym bytes))
@@ -199,7 +210,7 @@ pub AreSubscripts-last : (bytes part more : List ℕ) → bytes ≡ part ++ 0 �
 AreSubscripts-last bytes part more e p m =
     subst AreSubscripts
     (ap (λ xs. 0 ∷ xs) (sym (nil_from_length more m)) ∙ ap (λ xs. xs ++ 0 ∷ more) (sym (nil_from_length part p))
-        ∙ sym e)
+    ∙ sym e)
     AreSubscripts-end
 
 pub AreSubscripts-more : (bytes part more : List ℕ) → bytes ≡ part ++ 0 ∷ more → NoZero part

@@ -40,8 +40,8 @@ subscript_fault-text : (bytes text : List ℕ) → 0 < length bytes → unescape
     → is_number_text text ≡ false → subscript_fault (255 ∷ bytes) ≡ None
 subscript_fault-text bytes text some e other =
     cond-false (length bytes ==
-        0) (Some NullSubscript) (cond (is_text (unescaped bytes)) None (Some BadString))
-        (ne_eqb (length bytes) 0 (λ f. omega arith))
+    0) (Some NullSubscript) (cond (is_text (unescaped bytes)) None (Some BadString))
+    (ne_eqb (length bytes) 0 (λ f. omega arith))
     ∙ cond-true (is_text (unescaped bytes)) None (Some BadString) (ap is_text e ∙ ap not other)
 
 -- ---- how texts of numbers begin
@@ -61,12 +61,12 @@ begins_size : (ds : List ℕ) (e : ℤ) → AllByRecursion (λ d. d < 10) ds
 begins_size [] e h = refl
 begins_size (d ∷ ds) (pos e) h =
     ap (λ xs. begins_number (slice_index xs 0)) (cond-false (length (d ∷ ds) ==
-        0) (48 ∷ []) _ (ne_eqb (length (d ∷ ds)) 0 (λ f. omega arith)))
+    0) (48 ∷ []) _ (ne_eqb (length (d ∷ ds)) 0 (λ f. omega arith)))
     ∙ ap (λ n. begins_number (slice_index (large_text (d ∷ ds) n) 0)) (add-one e)
     ∙ begins_large d ds e (nat_le (length (d ∷ ds)) (suc e)) h.0
 begins_size (d ∷ ds) (negsuc k) h =
     ap (λ xs. begins_number (slice_index xs 0)) (cond-false (length (d ∷ ds) ==
-        0) (48 ∷ []) _ (ne_eqb (length (d ∷ ds)) 0 (λ f. omega arith)))
+    0) (48 ∷ []) _ (ne_eqb (length (d ∷ ds)) 0 (λ f. omega arith)))
 
 begins_by : (n : Numeral) → IsNumeral n → (t : Bool)
     → begins_number (slice_index (cond t (45 ∷ size_text n.digits n.exponent) (size_text n.digits n.exponent)) 0) ≡ true
@@ -81,7 +81,7 @@ no_number-begun : (text : List ℕ) → begins_number (slice_index text 0) ≡ f
 no_number-begun text h =
     false_from_ne_true (is_number_text text)
     (λ t. let f = (text_test text).0 t in
-        false≢true (sym h ∙ ap (λ xs. begins_number (slice_index xs 0)) (sym f.2) ∙ begins f.0 f.1))
+    false≢true (sym h ∙ ap (λ xs. begins_number (slice_index xs 0)) (sym f.2) ∙ begins f.0 f.1))
 
 -- ---- the tests
 
@@ -100,7 +100,7 @@ pub subscript_fault-word : (bytes : List ℕ) → 0 < length bytes → All (λ b
     → begins_number (slice_index bytes 0) ≡ false → subscript_fault (255 ∷ bytes) ≡ None
 subscript_fault-word bytes some plain begun =
     subscript_fault-text bytes bytes some (unescaped-plain bytes (recursion_from_All (λ b. 1 < b) bytes plain))
-        (no_number-begun bytes begun)
+    (no_number-begun bytes begun)
 
 pub some_from : (n : ℕ) (t : Bool) → t ≡ (n == 0) → t ≡ false → 0 < n
 some_from n t e f = let other = eqb-false n 0 (sym e ∙ f) in omega arith

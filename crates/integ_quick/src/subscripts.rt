@@ -7,7 +7,7 @@ ghost use Rattle.integ_quick.specs.Subscripts.{AreSubscripts, IsStart, begins_nu
 use m_key::is_escaped_text;
 use m_number::is_encoded;
 
-/// Whether these are right subscripts, each ended by a 0, and one more 0. 
+/// Whether these are right subscripts, each ended by a 0, and one more 0.
 pub(crate) fn are_subscripts(bytes: &[u8]) -> bool
     ensures { OnTrue result (AreSubscripts bytes.now) }
 {

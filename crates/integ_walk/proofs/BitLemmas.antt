@@ -32,7 +32,7 @@ no_bit bit k h =
 pub is_new : (byte k : ℕ) → k < 8 → (bit_and byte (1 * 2 ^ k % 256) == 0) ≡ not (bit_at byte k == 1)
 is_new byte k h =
     ap (λ m. bit_and byte m == 0) (bit_is k h) ∙ ap (λ m. m == 0) (and_pow byte k)
-        ∙ no_bit (bit_at byte k) k (bit_at-lt byte k)
+    ∙ no_bit (bit_at byte k) k (bit_at-lt byte k)
 
 -- Another block is another bit or stands in another byte.
 other_bit : (a b : ℕ) → a ≢ b → a / 8 ≡ b / 8 → a % 8 ≢ b % 8
@@ -40,7 +40,7 @@ other_bit a b n same e = n (omega (arith, div-add-mod a 8, div-add-mod b 8, same
 
 pub one_more : (bytes : List ℕ) (byte block b : ℕ) → block / 8 < length bytes → byte ≡ slice_index bytes (block / 8)
     → has_block (slice_set bytes (block / 8) (bit_or byte (1 * 2 ^ (block % 8) % 256))) b
-        ≡ ((b == block) || has_block bytes b)
+    ≡ ((b == block) || has_block bytes b)
 one_more bytes byte block b within is =
     let low : block % 8 < 8 = omega arith in
     let new = bit_or byte (1 * 2 ^ (block % 8) % 256) in

@@ -34,14 +34,20 @@ records_few : (n level at : ℕ) (left : List ℕ) → length (records_up_to n l
 records_few zero level at left = omega arith
 records_few (suc n) level at left =
     let rest = records_few n level (at + block.size_of left) (drop (block.size_of left) left) in
-    cond_both (is_well_sized level left) _ _ (λ (rs : List Record). length rs ≤ suc n) (λ _. omega (arith,
-        rest)) (λ _. omega arith)
+    cond_both (is_well_sized level left) _ _ (λ (rs : List Record). length rs ≤ suc n) (λ _. omega (
+      arith,
+      rest,
+    )) (λ _. omega arith)
 
 pub records_of_few : (bytes : List ℕ) → length (records_of bytes) ≤ length bytes
 records_of_few bytes =
     let left = bytes_left bytes 16 in
-    omega (arith, records_few (length left) (level_of bytes) 16 left, length-drop 16 (take (used_of bytes) bytes),
-        length-take (used_of bytes) bytes)
+    omega (
+      arith,
+      records_few (length left) (level_of bytes) 16 left,
+      length-drop 16 (take (used_of bytes) bytes),
+      length-take (used_of bytes) bytes,
+    )
 
 -- ---- how many children
 
@@ -65,7 +71,7 @@ unfolding children_of
 children_of_few h v bytes =
     let b : BlockReading = reading_of h v bytes in
     cond_both (list_any ends (kinds_of_head b bytes)) _ _ (λ (cs : List Child). length cs ≤ length bytes)
-        (λ _. omega arith)
+    (λ _. omega arith)
     (λ _. omega (arith, children_few b [] (records_of bytes), records_of_few bytes))
 
 -- ---- how many faults
@@ -80,8 +86,10 @@ filter_few : {A : Type 0} (test : A → Bool) (xs : List A) → length (filter t
 filter_few test [] = omega arith
 filter_few {A} test (x ∷ xs) =
     let rest = filter_few test xs in
-    cond_both (test x) _ _ (λ (ys : List A). length ys ≤ suc (length xs)) (λ _. omega (arith, rest)) (λ _. omega (arith,
-        rest))
+    cond_both (test x) _ _ (λ (ys : List A). length ys ≤ suc (length xs)) (λ _. omega (arith, rest)) (λ _. omega (
+      arith,
+      rest,
+    ))
 
 asked_few : {A : Type 0} (ends there : A → Bool) (xs : List A)
     → length (through_first ends (filter there xs)) ≤ length xs
@@ -98,8 +106,8 @@ head_few b bytes = asked_few ends (head_holds b bytes) head_kinds
 end_few : (level : ℕ) (left : List ℕ) → length (size_kinds level left) ≤ 1
 end_few level left =
     few (length left ==
-        0) (nat_lt (length left) 4
-        || nat_lt (block.size_of left) (least_size level)) (nat_lt (length left) (block.size_of left))
+    0) (nat_lt (length left) 4
+    || nat_lt (block.size_of left) (least_size level)) (nat_lt (length left) (block.size_of left))
   where
     few : (a b c : Bool)
         → length (if a then [] else (if b then RecordTooSmall ∷ [] else (if c then RecordTooLarge ∷ [] else []))) ≤ 1
@@ -117,7 +125,7 @@ kinds_few b bytes at previous (r ∷ rs) =
     let s : PlacedRecord = placed previous r in
     let here : List (ℕ × FaultKind) = map (at_offset r.offset) (kinds_of b s) in
     let more : List (ℕ × FaultKind) =
-        if is_ended b s then [] else kinds_from b bytes (r.offset + size_of s) (key_of b s) rs in
+    if is_ended b s then [] else kinds_from b bytes (r.offset + size_of s) (key_of b s) rs in
     let few : length more ≤ 1 + 22 * length rs =
     cond_both (is_ended b s) _ _ (λ (ks : List (ℕ × FaultKind)). length ks ≤ 1 + 22 * length rs) (λ _. omega arith)
     (λ _. kinds_few b bytes (r.offset + size_of s) (key_of b s) rs) in
@@ -130,7 +138,7 @@ block_few b bytes =
     let more : List (ℕ × FaultKind) = if list_any ends head then [] else kinds_from b bytes 16 [] (records_of bytes) in
     let few : length more ≤ 1 + 22 * length bytes =
     cond_both (list_any ends head) _ _ (λ (ks : List (ℕ × FaultKind)). length ks ≤ 1
-        + 22 * length bytes) (λ _. omega arith)
+    + 22 * length bytes) (λ _. omega arith)
     (λ _. omega (arith, kinds_few b bytes 16 [] (records_of bytes), records_of_few bytes)) in
     omega (arith, length-append (map (at_offset 0) head) more, length-map head (at_offset 0), head_few b bytes, few)
 
@@ -156,8 +164,8 @@ child_within b s c (Some p) i = by (is_sound b p) refl i
         → c.visit.block < b.header.total
     by true e (inl same) =
         let low : p < b.header.total =
-            ltb-true p b.header.total (and_parts (nat_lt 0 p) (nat_lt p b.header.total) (and_parts (nat_lt 0 p
-            && nat_lt p b.header.total) _ e).0).1 in
+        ltb-true p b.header.total (and_parts (nat_lt 0 p) (nat_lt p b.header.total) (and_parts (nat_lt 0 p
+        && nat_lt p b.header.total) _ e).0).1 in
         omega (arith, low, target_is b s p, ap (λ (d : Child). d.visit.block) same)
     by true e (inr j) = absurd j
     by false e j = absurd j
@@ -172,7 +180,7 @@ children_within b previous (r ∷ rs) c i =
         → IsIn (if t then [] else child_to b (placed previous r) (pointer_of b (placed previous r))
         ++ children_from b (key_of b (placed previous r)) rs) c
         → (IsIn (children_from b (key_of b (placed previous r)) rs) c → c.visit.block < b.header.total)
-            → c.visit.block < b.header.total
+        → c.visit.block < b.header.total
     by true j next = absurd j
     by false j next =
         let s : PlacedRecord = placed previous r in

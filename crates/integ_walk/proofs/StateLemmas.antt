@@ -93,7 +93,7 @@ pub fits : (s : State) → IsState s → s.count + work_left s < 2 ^ 42
 fits s h =
     let most : most_of_block s.header ≤ 1495561 = omega (arith, h.limits.block_to) in
     let first : s.header.total * most_of_block s.header ≤ s.header.total * 1495561 =
-        mul-le-mul_left s.header.total most in
+    mul-le-mul_left s.header.total most in
     omega (arith, first, h.few, h.limits.total_to, h.limits.limit_to)
 
 few_free : (bytes : List ℕ) (n : ℕ) → free_below bytes n ≤ n
@@ -138,12 +138,12 @@ free_same old new (suc n) same = λ i. free_same old new n same i + (if same n i
 pub state_past : (s : State) (link : Link) (used : List ℕ) → ((b : ℕ) → has_block used b ≡ has_block s.used b)
     → length used ≡ length s.used → IsState (with_link link s)
     → IsState (record s { used = used; count = s.count + 1 })
-        × (work_left (record s { used = used; count = s.count + 1 }) < work_left (with_link link s))
+    × (work_left (record s { used = used; count = s.count + 1 }) < work_left (with_link link s))
 state_past s link used same room h =
     let free : free_below used s.header.total ≡ free_below s.used s.header.total =
-        free_same s.used used s.header.total same in
+    free_same s.used used s.header.total same in
     let work : free_below used s.header.total * most_of_block s.header
-        ≡ free_below s.used s.header.total * most_of_block s.header = ap (λ n. n * most_of_block s.header) free in (
+    ≡ free_below s.used s.header.total * most_of_block s.header = ap (λ n. n * most_of_block s.header) free in (
       record {
         limits = h.limits;
         room = room ∙ h.room;
@@ -184,19 +184,18 @@ module _ (s : State) (v : Visit) (path : Steps) (bytes used : List ℕ) where
   pub state_entered : IsState s → length bytes ≡ s.header.block_size → length path + rank v ≤ 15
       → v.block < s.header.total
       → IsWith s.used v.block used → has_block s.used v.block ≡ false → length used ≡ length s.used
-          → IsState behind × (work_left behind < work_left s)
+      → IsState behind × (work_left behind < work_left s)
   state_entered h size short within more free room =
       let less =
-          less_work (free_below s.used s.header.total) (free_below used s.header.total) (most_of_block s.header)
-          (length found) (length (map here below))
+      less_work (free_below s.used s.header.total) (free_below used s.header.total) (most_of_block s.header)
+      (length found) (length (map here below))
       (length s.links) s.count (s.header.total * most_of_block s.header)
       (free_less s.used used v.block s.header.total more free within) (few_here size) h.few in
       let links = length-append (map here below) s.links in (
         record {
           limits = h.limits;
           room = room ∙ h.room;
-          sound = λ l c. elim (in_either (map here below) s.links l (in_from_Contains (map here below ++ s.links) l c))
-              [
+          sound = λ l c. elim (in_either (map here below) s.links l (in_from_Contains (map here below ++ s.links) l c)) [
             | inl i ↦ sound_here short l i
             | inr i ↦ h.sound l (Contains-from_in s.links l i)
           ];
@@ -217,7 +216,7 @@ module _ (image : List ℕ) (kept reached : List Steps) (ak : AreKept image kept
   on_front now s on =
       let later = come_front image kept reached ak ar on.faults (has_block s.used) s.links on.come in
       IsCut-front old now on.faults later.0 (tree_faults image kept reached) later.1
-          (IsCut-all old now on.faults on.listed)
+      (IsCut-all old now on.faults on.listed)
 
   pub on_at : (now later : List Fault) (s t : State) → later ≡ now → t ≡ s → On now s → On later t
   on_at now later s t e f on = subst (λ fs. On fs t) (sym e) (subst (On now) (sym f) on)
@@ -225,10 +224,10 @@ module _ (image : List ℕ) (kept reached : List Steps) (ak : AreKept image kept
   -- Where no link is left all were.
   pub on_end : (now : List Fault) (s : State) → s.links ≡ [] → On now s
       → (now ≡ old ++ tree_faults image kept reached) × (s.count ≡ length (tree_faults image kept reached))
-          × ((b : ℕ) → has_block s.used b ≡ is_reached image kept b)
+      × ((b : ℕ) → has_block s.used b ≡ is_reached image kept b)
   on_end now s none on =
       let all = come_all image kept reached ak ar on.faults (has_block s.used)
-          (subst (λ ls. HasCome image kept reached on.faults (has_block s.used) ls) none on.come) in
+      (subst (λ ls. HasCome image kept reached on.faults (has_block s.used) ls) none on.come) in
       (on.listed ∙ ap (λ fs. old ++ fs) all.0, on.counted ∙ ap length all.0, all.1)
 
   pub on_past : (now : List Fault) (s : State) (link : Link) (used : List ℕ)
@@ -250,18 +249,18 @@ module _ (image : List ℕ) (kept reached : List Steps) (ak : AreKept image kept
 
     by_header : (path : Steps) (v : Visit) (front : List Fault) (links : List Link)
         → HasCome image kept reached (front
-            ++ faults_of_block (fields_of image) path v (block_of image v.block)) (has_block used)
-            (links_at image path v ++ links)
+        ++ faults_of_block (fields_of image) path v (block_of image v.block)) (has_block used)
+        (links_at image path v ++ links)
         → HasCome image kept reached (front ++ at path v) (has_block used)
         (links_of path v.block (level_of (block_of image v.block)) (children_of s.header v (block_of image v.block))
-            ++ links)
+        ++ links)
     unfolding children_at
     by_header path v front links come =
         let bytes = block_of image v.block in
         let P : Header → Type 0 = λ h.
         HasCome image kept reached (front
-            ++ faults_of_block h path v bytes) (has_block used)
-            (links_of path v.block (level_of bytes) (children_of h v bytes) ++ links) in
+        ++ faults_of_block h path v bytes) (has_block used)
+        (links_of path v.block (level_of bytes) (children_of h v bytes) ++ links) in
         subst P (sym is.same) come
 
     -- into the block of a link
@@ -272,7 +271,7 @@ module _ (image : List ℕ) (kept reached : List Steps) (ak : AreKept image kept
       come_here =
           by_header (path_to link) link.child.visit on.faults s.links
           (come_into image kept reached ak ar on.faults (has_block s.used) (has_block used) link s.links on.come free
-              more)
+          more)
 
       pub on_entered : On (now
           ++ at (path_to link) link.child.visit) (behind s link.child.visit (path_to link)
@@ -293,7 +292,7 @@ module _ (image : List ℕ) (kept reached : List Steps) (ak : AreKept image kept
           let s' = behind s link.child.visit (path_to link) (block_of image link.child.visit.block) used in
           let rest = come_front image kept reached ak ar (on.faults ++ here) (has_block used) s'.links come_here in
           IsCut-behind old now later on.faults (here
-              ++ rest.0) (tree_faults image kept reached) on.listed (sym (append_assoc on.faults here rest.0) ∙ rest.1)
+          ++ rest.0) (tree_faults image kept reached) on.listed (sym (append_assoc on.faults here rest.0) ∙ rest.1)
           (IsCut-front now later here rest.0 (here ++ rest.0) refl cut)
 
     -- into the directory's root
@@ -304,20 +303,25 @@ module _ (image : List ℕ) (kept reached : List Steps) (ak : AreKept image kept
       come_first =
           let first = come_root image kept reached ak ar (has_block s.used) (has_block used) none more in
           let links =
-              subst (HasCome image kept reached (faults_of_block (fields_of image) [] directory_root (block_of image 1))
-              (has_block used))
+          subst (HasCome image kept reached (faults_of_block (fields_of image) [] directory_root (block_of image 1))
+          (has_block used))
           (sym (append-nil (links_at image [] directory_root))
-              ∙ ap (λ ls. links_at image [] directory_root ++ ls) (sym nil)) first in
+          ∙ ap (λ ls. links_at image [] directory_root ++ ls) (sym nil)) first in
           by_header [] directory_root [] s.links links
 
       pub on_root : On (old ++ at [] directory_root) (behind s directory_root [] (block_of image 1) used)
-      on_root = record { faults = at [] directory_root; listed = refl; counted = omega (arith, start); come =
-          come_first }
+      on_root = record {
+        faults = at [] directory_root;
+        listed = refl;
+        counted = omega (arith, start);
+        come =
+            come_first;
+      }
 
       pub on_rooting : (later : List Fault) → IsCut old later (at [] directory_root)
           → IsCut old later (tree_faults image kept reached)
       on_rooting later cut =
           let rest =
-              come_front image kept reached ak ar (at [] directory_root) (has_block used)
-              (behind s directory_root [] (block_of image 1) used).links come_first in
+          come_front image kept reached ak ar (at [] directory_root) (has_block used)
+          (behind s directory_root [] (block_of image 1) used).links come_first in
           IsCut-front old later (at [] directory_root) rest.0 (tree_faults image kept reached) rest.1 cut

@@ -12,25 +12,29 @@ use Rattle.integ_walk.proofs.walk.Goals as goal
 pub returns-in_err-begin-clause-refused : goal.returns-in_err-begin-clause-refused
 returns-in_err-begin-clause-refused g c x tells =
     OnErr-any c.from_residual-in_err-begin.result _
-        (λ kept reached ak ar. (c.in_err-begin.ensures.on x tells kept reached ak ar).1)
+    (λ kept reached ak ar. (c.in_err-begin.ensures.on x tells kept reached ak ar).1)
 
 pub returns-in_err-step-clause-refused : goal.returns-in_err-step-clause-refused
 returns-in_err-step-clause-refused g c x tells =
     OnErr-any c.from_residual-in_err-step.result _ (λ kept reached ak ar.
     (c.in_err-step.ensures.on x (c.loop-walker.invariant.image
-        ∙ tells) kept reached (g.F.FaultSink.listed c.args.sink.now) ak ar
+    ∙ tells) kept reached (g.F.FaultSink.listed c.args.sink.now) ak ar
     (c.loop-walker.invariant.on x tells kept reached ak ar)).1)
 
 pub loop-walker-preserved : goal.loop-walker-preserved
 loop-walker-preserved g c =
     record {
       state = c.in_ok-step.ensures.state;
-      buffer = omega (arith, c.in_ok-step.ensures.buffer, c.loop-walker.invariant.buffer,
-          ap (λ (h : Header). h.block_size) c.in_ok-step.ensures.header);
+      buffer = omega (
+        arith,
+        c.in_ok-step.ensures.buffer,
+        c.loop-walker.invariant.buffer,
+        ap (λ (h : Header). h.block_size) c.in_ok-step.ensures.header,
+      );
       header = c.in_ok-step.ensures.header ∙ c.loop-walker.invariant.header;
       on = λ x tells kept reached ak ar.
           (c.in_ok-step.ensures.on x (c.loop-walker.invariant.image
-              ∙ tells) kept reached (g.F.FaultSink.listed c.args.sink.now) ak ar
+          ∙ tells) kept reached (g.F.FaultSink.listed c.args.sink.now) ak ar
           (c.loop-walker.invariant.on x tells kept reached ak ar)).0;
       image = c.in_ok-step.ensures.cause.image ∙ c.loop-walker.invariant.image;
       read = omega (arith, c.in_ok-step.ensures.cause.read, c.loop-walker.invariant.read);
@@ -48,7 +52,7 @@ returns-clause-walked g c x tells =
     let on = (c.in_ok-step.ensures.on x (c.loop-walker.invariant.image ∙ tells) kept.0 reached.0 start kept.1 reached.1
     (c.loop-walker.invariant.on x tells kept.0 reached.0 kept.1 reached.1)).0 in
     let end = on_end x kept.0 reached.0 kept.1 reached.1 start now (state_of c.step.new.self)
-        (c.in_ok-step.ensures.end c.if-branch.false) on in
+    (c.in_ok-step.ensures.end c.if-branch.false) on in
     record {
       kept = kept.0;
       reached = reached.0;

@@ -8,4 +8,4 @@ pub returns-clause-whole : goal.returns-clause-whole
 returns-clause-whole c =
     OnTrue_from c.eq.result _
     (λ t. named_front c.args.key.now c.args.name.now (omega arith) c.if-key-name-ne0.false
-        ((bytes_eq-Decides _ c.args.name.now).0 (sym c.eq.ensures ∙ t)))
+    ((bytes_eq-Decides _ c.args.name.now).0 (sym c.eq.ensures ∙ t)))

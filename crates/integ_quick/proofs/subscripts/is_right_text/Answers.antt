@@ -12,4 +12,4 @@ pub returns-else-is_word : goal.returns-else-is_word
 returns-else-is_word c =
     OnTrue_from c.is_escaped_text.result _
     (λ t. subscript_fault-escaped c.args.bytes.now (some_from _ _ c.is_empty.ensures c.if-is_empty.false)
-        (c.is_escaped_text.ensures.0 t))
+    (c.is_escaped_text.ensures.0 t))

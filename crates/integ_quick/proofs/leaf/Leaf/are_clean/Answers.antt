@@ -8,7 +8,7 @@ use Rattle.integ_quick.proofs.leaf.Leaf.are_clean.Goals as goal
 pub loop-front-init : goal.loop-front-init
 loop-front-init c =
     IsReadTo-first c.args.self.now c.args.left.now c.takes_first.new.key c.in-Some.first.rest.now
-        c.in-Some.first.body.now c.in-Some.first.count
+    c.in-Some.first.body.now c.in-Some.first.count
     c.in-Some.ensures.front
     (OnTrue_at c.if-not-takes_first.false c.takes_first.ensures.count)
     (OnTrue_at c.if-not-takes_first.false c.takes_first.ensures.follows)
@@ -23,7 +23,7 @@ loop-front-smaller c = omega (arith, c.in-Some-of.ensures.less)
 pub loop-front-preserved : goal.loop-front-preserved
 loop-front-preserved c =
     IsReadTo-next c.args.self.now c.args.left.now c.loop-front.key c.takes_next.new.key c.loop-front.rest.now
-        c.in-Some-of.front.rest.now
+    c.in-Some-of.front.rest.now
     c.in-Some-of.front.body.now c.in-Some-of.front.count c.loop-front.invariant
     c.in-Some-of.ensures.front
     (OnTrue_at c.if-not-takes_next.false c.takes_next.ensures.count)

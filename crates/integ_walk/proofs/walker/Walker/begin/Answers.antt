@@ -20,9 +20,11 @@ returns-clause-state g c =
     e ∙ ap (λ (p : Steps). entered (record s { used = used }) directory_root p bytes) c.new-path.ensures in
     subst IsState (sym first)
     (state_entered s directory_root [] bytes used
-        (state_new s c.requires.limits c.requires.room c.requires.faults c.requires.links)
-    (omega (arith, c.enter.ensures.buffer, c.requires.buffer)) (omega arith) (omega (arith,
-        c.requires.limits.total_from))
+    (state_new s c.requires.limits c.requires.room c.requires.faults c.requires.links)
+    (omega (arith, c.enter.ensures.buffer, c.requires.buffer)) (omega arith) (omega (
+      arith,
+      c.requires.limits.total_from,
+    ))
     c.insert.ensures.blocks (c.requires.none 1) c.insert.ensures.room).0)
 
 pub returns-clause-on : goal.returns-clause-on
@@ -34,7 +36,7 @@ returns-clause-on g c x tells kept reached ak ar =
     let header = c.requires.header x tells in
     let told = c.enter.ensures.told x tells in
     let due : faults_of_block s.header c.new-path.result directory_root (block_of x 1)
-        ≡ faults_of_block s.header [] directory_root (block_of x 1) =
+    ≡ faults_of_block s.header [] directory_root (block_of x 1) =
     ap (λ (p : Steps). faults_of_block s.header p directory_root (block_of x 1)) c.new-path.ensures in
     either c.enter.result _ _
     (λ v e.
@@ -44,7 +46,7 @@ returns-clause-on g c x tells kept reached ak ar =
     let listed = at_ok c.enter.result v _ e told.all ∙ ap (λ fs. old ++ fs) due in
     on_at x kept reached ak ar old _ new _ (state_of c.enter.new.self) listed state
     (on_root x kept reached ak ar old s used header c.requires.none c.insert.ensures.blocks c.requires.faults
-        c.requires.links))
+    c.requires.links))
     (λ y e. on_rooting x kept reached ak ar old s used header c.requires.none c.insert.ensures.blocks c.requires.faults
-        c.requires.links new
+    c.requires.links new
     (subst (IsCut old new) due (at_err c.enter.result y _ e told.some)))

@@ -20,20 +20,25 @@ overflow_add-self g c =
     let few = faults_few h c.args.at.path (visit_of c.args.at.visit) bytes in
     let header : h ≡ c.args.self.now.header.now = ap (λ (w : Walker). w.header.now) c.in_ok-read.ensures.others in
     let faults : c.read.new.self.faults ≡ c.args.self.now.faults =
-        ap (λ (w : Walker). w.faults) c.in_ok-read.ensures.others in
+    ap (λ (w : Walker). w.faults) c.in_ok-read.ensures.others in
     let size : length bytes ≡ c.args.self.now.header.now.block_size =
-        omega (arith, c.deref.ensures.len, c.in_ok-read.ensures.buffer, c.requires.buffer,
-        ap length c.deref.ensures.value) in
+    omega (
+      arith,
+      c.deref.ensures.len,
+      c.in_ok-read.ensures.buffer,
+      c.requires.buffer,
+      ap length c.deref.ensures.value,
+    ) in
     omega (arith, few, faults, size, c.in_ok-self.ensures.count, c.requires.fits)
 
 pub returns-in_err-push-clause-told : goal.returns-in_err-push-clause-told
 returns-in_err-push-clause-told g c x tells =
     let p = err_from_is_err_and c.from_residual-in_err-push.result c.from_residual-in_err-push.ensures.1 in
     let header : c.read.new.self.header.now ≡ c.args.self.now.header.now =
-        ap (λ (w : Walker). w.header.now) c.in_ok-read.ensures.others in
+    ap (λ (w : Walker). w.header.now) c.in_ok-read.ensures.others in
     let bytes : c.deref.result.now ≡ block_of x c.args.at.visit.block = c.deref.ensures.value
-        ∙ c.in_ok-read.ensures.bytes x tells in
+    ∙ c.in_ok-read.ensures.bytes x tells in
     Grew-err _ _ _ c.from_residual-in_err-push.result p.0 p.1
     (IsCut-all _ _ _ (c.in_ok-self.ensures.told.faults.all
     ∙ (λ i. g.F.FaultSink.listed c.args.sink.now
-        ++ faults_of_block (header i) c.args.at.path (visit_of c.args.at.visit) (bytes i))))
+    ++ faults_of_block (header i) c.args.at.path (visit_of c.args.at.visit) (bytes i))))

@@ -74,8 +74,11 @@ module _ (g : Over) (c : In_ok-enter g) where
   step =
       let sound = next_sound s link c.requires.state in
       state_entered s link.child.visit (path_to link) bytes used (state_tail s link c.requires.state)
-      (omega (arith, c.in_ok-enter.ensures.buffer,
-          c.requires.buffer)) sound.short sound.within c.insert-is_new.ensures.blocks free c.insert-is_new.ensures.room
+      (omega (
+        arith,
+        c.in_ok-enter.ensures.buffer,
+        c.requires.buffer,
+      )) sound.short sound.within c.insert-is_new.ensures.blocks free c.insert-is_new.ensures.room
 
 pub returns-in_ok-enter-clause-state : goal.returns-in_ok-enter-clause-state
 returns-in_ok-enter-clause-state g c = subst IsState (sym (state g c)) (step g c).0
@@ -83,8 +86,8 @@ returns-in_ok-enter-clause-state g c = subst IsState (sym (state g c)) (step g c
 pub returns-in_ok-enter-clause-less : goal.returns-in_ok-enter-clause-less
 returns-in_ok-enter-clause-less g c =
     let work : work_left (state_of c.enter.new.self)
-        ≡ work_left (behind (s g c) (link g c).child.visit (path_to (link g c)) (bytes g c) (used g c)) =
-        ap work_left (state g c) in
+    ≡ work_left (behind (s g c) (link g c).child.visit (path_to (link g c)) (bytes g c) (used g c)) =
+    ap work_left (state g c) in
     omega (arith, work, (step g c).1)
 
 pub returns-in_ok-enter-clause-on : goal.returns-in_ok-enter-clause-on
@@ -94,17 +97,16 @@ returns-in_ok-enter-clause-on g c x tells kept reached start ak ar on =
     let v = (link g c).child.visit in
     let path = path_to (link g c) in
     let read : bytes g c ≡ block_of x v.block = c.in_ok-enter.ensures.read x tells
-        ∙ ap (λ (w : law.Visit). block_of x w.block) (visit g c) in
+    ∙ ap (λ (w : law.Visit). block_of x w.block) (visit g c) in
     let is : state_of c.enter.new.self ≡ behind (s g c) v path (block_of x v.block) (used g c) =
     state g c ∙ ap (λ b. behind (s g c) v path b (used g c)) read in
     let listed : new ≡ now ++ faults_of_block (s g c).header path v (block_of x v.block) =
     (c.in_ok-enter.ensures.told x tells).all
     ∙ (λ i. now
-        ++ faults_of_block (s g c).header (c.into_at.ensures.path i) (visit g c i) (block_of x (visit g c i).block)) in
-        (
+    ++ faults_of_block (s g c).header (c.into_at.ensures.path i) (visit g c i) (block_of x (visit g c i).block)) in (
       on_at x kept reached ak ar start _ new _ (state_of c.enter.new.self) listed is
           (on_entered x kept reached ak ar start (s g c) (used g c) (c.requires.header x tells) now (link g c)
-              c.insert-is_new.ensures.blocks (free g c) on),
+          c.insert-is_new.ensures.blocks (free g c) on),
       tt,
     )
 
@@ -116,17 +118,17 @@ returns-in_err-enter-clause-on g c x tells kept reached start ak ar on =
     let now = g.F.FaultSink.listed c.args.sink.now in
     let new = g.F.FaultSink.listed c.enter.new.sink in
     let free : has_block s.used link.child.visit.block ≡ false =
-        not_true _ (sym c.insert-is_new.ensures.is_new ∙ c.if-is_new.true) in
+    not_true _ (sym c.insert-is_new.ensures.is_new ∙ c.if-is_new.true) in
     let visit : visit_of c.into_at.result.visit ≡ link.child.visit = ap visit_of c.into_at.ensures.visit in
     let due : faults_of_block s.header c.into_at.result.path (visit_of c.into_at.result.visit)
-        (block_of x c.into_at.result.visit.block)
+    (block_of x c.into_at.result.visit.block)
     ≡ faults_of_block s.header (path_to link) link.child.visit (block_of x link.child.visit.block) =
     λ i. faults_of_block s.header (c.into_at.ensures.path i) (visit i) (block_of x (visit i).block) in
     let cut = subst (IsCut now new) due (c.in_err-enter.ensures.told x tells).some in
     let p = err_from_is_err_and c.from_residual.result c.from_residual.ensures.1 in
     only_err c.from_residual.result p.0 _ _ p.1
     (on_entering x kept reached ak ar start s used (c.requires.header x tells) now link c.insert-is_new.ensures.blocks
-        free on new cut)
+    free on new cut)
 
 -- ---- passing one
 
@@ -141,12 +143,12 @@ module _ (g : Over) (c : goal.After-self-1 g) where
 pub returns-in_ok-fault-clause-state : goal.returns-in_ok-fault-clause-state
 returns-in_ok-fault-clause-state g c =
     (state_past (state_of c.args.self.now) (link_of c.args.link) c.insert-is_new.new.self.bytes.items (same g c)
-        c.insert-is_new.ensures.room c.requires.state).0
+    c.insert-is_new.ensures.room c.requires.state).0
 
 pub returns-in_ok-fault-clause-less : goal.returns-in_ok-fault-clause-less
 returns-in_ok-fault-clause-less g c =
     (state_past (state_of c.args.self.now) (link_of c.args.link) c.insert-is_new.new.self.bytes.items (same g c)
-        c.insert-is_new.ensures.room c.requires.state).1
+    c.insert-is_new.ensures.room c.requires.state).1
 
 pub returns-in_ok-fault-clause-on : goal.returns-in_ok-fault-clause-on
 returns-in_ok-fault-clause-on g c x tells kept reached start ak ar on =
@@ -155,10 +157,10 @@ returns-in_ok-fault-clause-on g c x tells kept reached start ak ar on =
     let now = g.F.FaultSink.listed c.args.sink.now in
     let new = g.F.FaultSink.listed c.fault.new.self in
     let listed : new ≡ now ++ double_of link ∷ [] = c.in_ok-fault.ensures.ok
-        ∙ ap (λ f. now ++ f ∷ []) c.into_fault.ensures in (
+    ∙ ap (λ f. now ++ f ∷ []) c.into_fault.ensures in (
       on_at x kept reached ak ar start _ new _ _ listed refl
           (on_past x kept reached ak ar start now s link c.insert-is_new.new.self.bytes.items (same g c) (taken g c)
-              on),
+          on),
       tt,
     )
 

@@ -13,12 +13,17 @@ returns-clause-links c =
     let old = c.args.self.now.frames.items in
     let bytes = c.args.self.now.block.items in
     let frame : Frame =
-        record { path = c.args.at.path; block = c.args.at.visit.block; level = c.index.result.now; children =
-        c.into_iter.result } in
+    record {
+      path = c.args.at.path;
+      block = c.args.at.visit.block;
+      level = c.index.result.now;
+      children =
+          c.into_iter.result;
+    } in
     let pushed : c.push.new.self.items ≡ old ++ frame ∷ [] = c.in_ok-push.ensures.items in
     let level : c.index.result.now ≡ slice_index bytes 3 = c.index.ensures
-        ∙ get_or_default_zero bytes 3 _ (omega (arith, c.requires)) in
+    ∙ get_or_default_zero bytes 3 _ (omega (arith, c.requires)) in
     ap all_links pushed
     ∙ links_push old frame
     ∙ (λ i. links_of c.args.at.path c.args.at.visit.block (level i) (map child_of (c.into_iter.ensures.rest i))
-        ++ all_links old)
+    ++ all_links old)

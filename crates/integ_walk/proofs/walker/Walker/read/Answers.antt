@@ -12,8 +12,13 @@ unit-requires g c x tells =
     let head = c.requires.header x tells in
     is_unit x c.args.block (length c.deref_mut.result.now) head.readable
     (omega (arith, c.requires.within, ap (λ (h : Header). h.total) head.same))
-    (omega (arith, c.requires.buffer, c.deref_mut.ensures.len, c.deref_mut.ensures.value,
-        ap (λ (h : Header). h.block_size) head.same))
+    (omega (
+      arith,
+      c.requires.buffer,
+      c.deref_mut.ensures.len,
+      c.deref_mut.ensures.value,
+      ap (λ (h : Header). h.block_size) head.same,
+    ))
 
 front : (n : ℕ) (out rest : List ℕ) → length out ≡ n → take n (out ++ rest) ≡ out
 front n out rest e = ap (λ k. take k (out ++ rest)) (sym e) ∙ take-append_seam out rest

@@ -16,7 +16,7 @@ invariant-loop-link g l = record {
   on : ForSome (g.U.UnitSource.image l.fn.units) (λ file. (kept reached : List Steps) (start : List Fault)
       → AreKept file kept → AreReached file kept reached
       → IsOn file kept reached start (g.F.FaultSink.listed l.fn.sink) (state_of l.fn.self)
-          → IsOn file kept reached start (g.F.FaultSink.listed l.sink) (state_of l.self));
+      → IsOn file kept reached start (g.F.FaultSink.listed l.sink) (state_of l.self));
   image : g.U.UnitSource.image l.units ≡ g.U.UnitSource.image l.fn.units;
   read : g.U.UnitSource.failures l.fn.units ≤ g.U.UnitSource.failures l.units;
   source : g.U.UnitSource.was_read l.fn.units l.units;
