@@ -40,18 +40,8 @@ fn words_have_their_answers(rt: HostRuntime) -> Result<(), Fail> {
         ("stamp", &["extract", "-stamp=x y~"], "NOTBUILT\n", 22),
         ("empty stamp", &["EXTRACT", "-STAMP="], "NOTBUILT\n", 22),
         ("stamp without =", &["EXTRACT", "-STAMP"], "BADWORDS 1\n", 7),
-        (
-            "bad stamp",
-            &["EXTRACT", "-STAMP=\u{7f}", "x"],
-            "BADWORDS 1\n",
-            7,
-        ),
-        (
-            "two stamps",
-            &["EXTRACT", "-STAMP=x", "-STAMP=x"],
-            "BADWORDS 2\n",
-            7,
-        ),
+        ("bad stamp", &["EXTRACT", "-STAMP=\u{7f}", "x"], "BADWORDS 1\n", 7),
+        ("two stamps", &["EXTRACT", "-STAMP=x", "-STAMP=x"], "BADWORDS 2\n", 7),
     ] {
         let row = Row {
             label,
@@ -84,38 +74,10 @@ fn integ_tells_what_ends_the_reading(rt: HostRuntime) -> Result<(), Fail> {
     let whole = HEADER_LENGTH + 100 * 1024;
     for (label, length, at, bytes, said, status) in [
         ("no bytes", 0, 0, &b""[..], "DBFSTHEAD file\nFAULTS 1\n", 10),
-        (
-            "a byte short of a header",
-            8191,
-            0,
-            b"",
-            "DBFSTHEAD file\nFAULTS 1\n",
-            10,
-        ),
-        (
-            "another label",
-            whole,
-            7,
-            b"2",
-            "DBNOTDB file\nFAULTS 1\n",
-            10,
-        ),
-        (
-            "odd block size",
-            whole,
-            8,
-            &[0xE8, 3],
-            "DBNOTMLTP file\nFAULTS 1\n",
-            10,
-        ),
-        (
-            "a byte short of its blocks",
-            whole - 1,
-            0,
-            b"",
-            "DBFSTBC file\nFAULTS 1\n",
-            10,
-        ),
+        ("a byte short of a header", 8191, 0, b"", "DBFSTHEAD file\nFAULTS 1\n", 10),
+        ("another label", whole, 7, b"2", "DBNOTDB file\nFAULTS 1\n", 10),
+        ("odd block size", whole, 8, &[0xE8, 3], "DBNOTMLTP file\nFAULTS 1\n", 10),
+        ("a byte short of its blocks", whole - 1, 0, b"", "DBFSTBC file\nFAULTS 1\n", 10),
         ("whole", whole, 0, b"", "FAULTS 0\n", 0),
     ] {
         let row = Row {
