@@ -1,5 +1,5 @@
 -- What a told host's file is, from its length and the read of its first bytes.
-use Rattle.std.proofs.Common.{◌≡◌, ℕ, ◌<◌, ◌≤◌, List, length, take, Option, None, Some, IfSome, sym, subst, ◌∙◌, ap, arith}
+use Rattle.std.proofs.Common.{◌≡◌, ℕ, ◌≤◌, List, length, take, Option, None, Some, IfSome, sym, subst, ◌∙◌, ap, arith}
 use Rattle.std.proofs.lemmas.List.{take_all}
 use Rattle.host_model.specs.Files.{Contents, Reads, file_of}
 use Rattle.host_model.specs.declared.host.FileNo.TheVariants.{Db}

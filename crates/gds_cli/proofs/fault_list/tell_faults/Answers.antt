@@ -1,4 +1,4 @@
-use Rattle.std.proofs.Common.{◌≡◌, refl, ap}
+use Rattle.std.proofs.Common.{refl, ap}
 use Rattle.host_model.proofs.FailureLemmas.{NeverFell-trans}
 use Rattle.integ.specs.RawFile.{database_of}
 use Rattle.gds_cli.specs.Answer.{FaultsDue, list_reply}
