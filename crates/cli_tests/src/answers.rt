@@ -116,7 +116,7 @@ fn integ_tells_what_ends_the_reading(rt: HostRuntime) -> Result<(), Fail> {
             "DBFSTBC file\nFAULTS 1\n",
             10,
         ),
-        ("whole", whole, 0, b"", "NOTBUILT\n", 22),
+        ("whole", whole, 0, b"", "FAULTS 0\n", 0),
     ] {
         let row = Row {
             label,

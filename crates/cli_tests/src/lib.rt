@@ -8,4 +8,6 @@ mod changes;
 #[cfg(test)]
 mod failures;
 #[cfg(test)]
+mod faults;
+#[cfg(test)]
 mod files;

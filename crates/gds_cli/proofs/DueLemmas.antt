@@ -14,8 +14,11 @@ use Rattle.gds_cli.specs.declared.words.BadWords.{BadWords}
 use Rattle.gds_cli.specs.declared.status.Status.{Status}
 use Rattle.gds_cli.specs.declared.status.Status.TheVariants as ended
 use Rattle.gds_cli.specs.Status.{HasCause}
+use Rattle.gds_law.specs.declared.fault.Fault.{Fault}
+use Rattle.gds_law.specs.Faults.{AreFaults}
+use Rattle.gds_law.proofs.KeptLemmas.{one_fault_list}
 use Rattle.gds_cli.specs.Thin.{IsThinWith}
-use Rattle.gds_cli.specs.Answer.{Reply, Answers, SaysFront, Due, Ends, ExtractDue, not_built, is_break}
+use Rattle.gds_cli.specs.Answer.{Reply, Answers, SaysFront, Due, Ends, ExtractDue, FaultsDue, list_reply, not_built, is_break}
 use Rattle.gds_cli.specs.Extract.{BreaksOff, SaysThin}
 use Rattle.gds_cli.proofs.LeafLemmas.{one_map}
 
@@ -39,18 +42,24 @@ one_extract stamp c r s p q =
     q)
     p
 
+one_list : (image : List ℕ) (r s : Reply) → FaultsDue image r → FaultsDue image s → r ≡ s
+one_list image r s p q = p.2 ∙ ap list_reply ((one_fault_list image).1 p.0 q.0 p.1 q.1) ∙ sym q.2
+
+some_list : (image : List ℕ) → (reply : Reply) × FaultsDue image reply
+some_list image = let found = (one_fault_list image).0 in (list_reply found.0, (found.0, found.1, refl))
+
 pub one_due : (command : Result Command BadWords) (c : Contents) (r s : Reply) → Due command c r → Due command c s
     → r ≡ s
 one_due (Err bad) c r s p q = p ∙ sym q
 one_due (Ok Version) c r s p q = p ∙ sym q
-one_due (Ok Integ) c r s p q = p ∙ sym q
+one_due (Ok Integ) c r s p q = one_list c.db r s p q
 one_due (Ok (Extract stamp)) c r s p q = one_extract stamp.items c r s p q
 
 -- it can't be that no reply is due
 pub some_due : (command : Result Command BadWords) (c : Contents) → ((reply : Reply) → Due command c reply → ⊥) → ⊥
 some_due (Err bad) c none = none _ refl
 some_due (Ok Version) c none = none _ refl
-some_due (Ok Integ) c none = none _ refl
+some_due (Ok Integ) c none = let found = some_list c.db in none found.0 found.1
 some_due (Ok (Extract stamp)) c none =
     none not_built
     (inr (λ m thin. none (record { text = zwr m stamp.items; status = ended.Done }) (inl (m, thin, refl)), refl))
@@ -115,6 +124,22 @@ goes_extract told now command stamp text status is same ends =
     let Q : List ℕ → Type 0 = λ t. TellsOn told now (λ before after. Ends (ExtractDue t before) status before after) in
     subst P (sym is) (subst Q same ends)
 
+pub goes_faults : (told now : Option Contents) (command : Result Command BadWords) (status : Status)
+    → command ≡ Ok Integ → TellsOn told now (λ before after. Ends (FaultsDue before.db) status before after)
+    → TellsOn told now (λ before after. Ends (Due command before) status before after)
+goes_faults told now command status is ends =
+    let P : Result Command BadWords → Type 0 =
+    λ k. TellsOn told now (λ before after. Ends (Due k before) status before after) in
+    subst P (sym is) ends
+
+-- the list of the file's faults is the one that is due
+pub list_due : (told mid : Option Contents) (faults : List Fault) → mid ≡ told
+    → ForSome told (λ c. AreFaults c.db faults)
+    → ForSome told (λ c. IsDueAt mid (FaultsDue c.db) (list_reply faults) c)
+list_due told mid faults same are c tells =
+    let due : FaultsDue c.db (list_reply faults) = (faults, are c tells, refl) in
+    record { same = same ∙ tells; is = due; only = λ r d. one_list c.db r (list_reply faults) d due }
+
 -- nothing was said
 pub goes_silent : (told : Option Contents) (due : Contents → Reply → Type 0)
     → TellsOn told told (λ before after. Ends (due before) ended.Memory before after)
@@ -131,7 +156,7 @@ goes_untold told now R none = let P : Option Contents → Type 0 = λ o. TellsOn
 
 -- ---- the ends of an extract
 
-goes_on : (told now : Option Contents) (R : Contents → Contents → Type 0)
+pub goes_on : (told now : Option Contents) (R : Contents → Contents → Type 0)
     → ForSome told (λ c. (d : Contents) × (now ≡ Some d) × R c d) → TellsOn told now R
 goes_on None now R known = tt
 goes_on (Some c) now R known =
@@ -163,17 +188,29 @@ extract_other told mid stamp known c tells =
           due;
     }
 
-pub extract_breaks : (told now : Option Contents) (stamp : List ℕ) (status : Status) → is_break status ≡ true
-    → ForSome told (λ c. BreaksOff c (ExtractDue stamp c) now)
-    → TellsOn told now (λ before after. Ends (ExtractDue stamp before) status before after)
-extract_breaks told now stamp status is known =
-    goes_on told now (λ before after. Ends (ExtractDue stamp before) status before after) (λ c tells.
+-- the work broke off
+pub goes_broken : (told now : Option Contents) (due : Contents → Reply → Type 0) (status : Status)
+    → is_break status ≡ true → ForSome told (λ c. BreaksOff c (due c) now)
+    → TellsOn told now (λ before after. Ends (due before) status before after)
+goes_broken told now due status is known =
+    goes_on told now (λ before after. Ends (due before) status before after) (λ c tells.
     let b = known c tells in
     let P : Bool → Type 0 = λ t. MatchBool t
     ((said : List ℕ) × (saying c b.said ≡ saying c said)
-    × ((reply : Reply) → ExtractDue stamp c reply → (n : ℕ) × (said ≡ take n reply.text)))
-    ((reply : Reply) × ExtractDue stamp c reply × (status ≡ reply.status) × (saying c b.said ≡ saying c reply.text)) in
+    × ((reply : Reply) → due c reply → (n : ℕ) × (said ≡ take n reply.text)))
+    ((reply : Reply) × due c reply × (status ≡ reply.status) × (saying c b.said ≡ saying c reply.text)) in
     (saying c b.said, b.told, subst P (sym is) (b.said, refl, b.front)))
+
+-- it broke off before a byte was said
+pub goes_quiet : (told now : Option Contents) (due : Contents → Reply → Type 0) (status : Status)
+    → is_break status ≡ true → now ≡ told
+    → TellsOn told now (λ before after. Ends (due before) status before after)
+goes_quiet told now due status is same =
+    goes_broken told now due status is (λ c tells. record {
+      said = [];
+      told = same ∙ tells ∙ ap (λ (said : List ℕ). Some (record c { said = said })) (sym (append-nil c.said));
+      front = λ reply d. (0, refl);
+    })
 
 -- ---- where no fault came
 

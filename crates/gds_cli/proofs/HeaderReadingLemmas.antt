@@ -1,17 +1,8 @@
 -- What a told host's file is, from its length and the read of its first bytes.
-use Rattle.std.proofs.Common.{◌≡◌, ℕ, ◌<◌, ◌≤◌, List, length, take, Option, None, Some, IfSome, sym, subst, ◌∙◌, ap, arith}
+use Rattle.std.proofs.Common.{◌≡◌, ℕ, ◌≤◌, List, length, take, Option, None, Some, IfSome, sym, subst, ◌∙◌, ap, arith}
 use Rattle.std.proofs.lemmas.List.{take_all}
 use Rattle.host_model.specs.Files.{Contents, Reads, file_of}
 use Rattle.host_model.specs.declared.host.FileNo.TheVariants.{Db}
-use Rattle.gds_header.specs.declared.kind.HeaderKind.{HeaderKind}
-use Rattle.gds_header.specs.declared.kind.HeaderKind.TheVariants.{ShortHeader}
-use Rattle.gds_header.specs.Kinds.{ending_kind}
-use Rattle.gds_header.proofs.EndingLemmas.{ending_kind-short}
-
-pub short_file : (told : Option Contents) (n : ℕ) → IfSome told (λ c. n ≡ length (file_of c Db)) → n < 8192
-    → IfSome told (λ c. Some ShortHeader ≡ ending_kind c.db)
-short_file None n known short = tt
-short_file (Some c) n known short = sym (ending_kind-short c.db (omega arith))
 
 -- the bytes at the front of the file, and its length
 pub record Begins (bytes : List ℕ) (n : ℕ) (file : List ℕ) : Type 0 where
@@ -35,10 +26,3 @@ begins_told (Some c) read n count old bytes long same room size whole given =
     begins n count old bytes c.db long room size whole
     (let P : Option Contents
     → Type 0 = λ r. IfSome r (λ d. Reads (file_of d Db) 0 old bytes count) in subst P same given)
-
--- what follows for the file that is told
-pub decided : (told : Option Contents) (bytes : List ℕ) (n : ℕ) (kind : Option HeaderKind)
-    → IfSome told (λ c. Begins bytes n c.db) → ((file : List ℕ) → Begins bytes n file → ending_kind file ≡ kind)
-    → IfSome told (λ c. kind ≡ ending_kind c.db)
-decided None bytes n kind begun ends = tt
-decided (Some c) bytes n kind begun ends = sym (ends c.db begun)

@@ -1,5 +1,4 @@
 mod HeaderReadingLemmas
-mod AnswerLemmas
 mod BlockLemmas
 mod DistinctLemmas
 mod SoundHeaderLemmas
@@ -7,6 +6,8 @@ mod SayingLemmas
 mod DirectoryLemmas
 mod ExtractLemmas
 mod DueLemmas
+mod FaultsDueLemmas
+mod FaultLineLemmas
 pub mod LeafRecordLemmas
 pub mod LeafReadingLemmas
 pub mod LeafLemmas

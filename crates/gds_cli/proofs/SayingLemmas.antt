@@ -4,7 +4,7 @@ use Rattle.std.proofs.Math.Seq.{take-append-add, take-append_seam}
 use Rattle.std.proofs.lemmas.List.{take-append-le, take_min, take_more, get_or_default}
 use Rattle.std.specs.List.{AllZip}
 use Rattle.host_model.specs.Files.{Contents, saying}
-use Rattle.gds_cli.specs.Extract.{SaidOf}
+use Rattle.gds_cli.specs.Extract.{SaidOf, Waits}
 
 -- some of the text was said
 abbrev pub SaidFront : Contents → List ℕ → Option Contents → Type 0
@@ -140,3 +140,37 @@ module _ {X : Type 0} (f : X → List ℕ) (c : Contents) (now : Option Contents
 pub get_or_same : {X : Type 0} (xs : List (List X)) (i : ℕ) → i < length xs
     → get_or xs i [] ≡ get_or xs i (get_or xs i [])
 get_or_same xs i within = get_or_default xs i [] (get_or xs i []) within
+
+-- ---- a text of which a front was said and the rest waits
+
+module _ (c : Contents) (now : Option Contents) (text waiting : List ℕ) (waits : Waits c text waiting now) where
+  -- more is put behind it
+  pub waits_more : (more longer whole : List ℕ) → longer ≡ waiting ++ more → whole ≡ text ++ more
+      → Waits c whole longer now
+  waits_more more longer whole behind parts = (
+    waits.0,
+    waits.1,
+    parts ∙ ap (λ t. t ++ more) waits.2 ∙ append_assoc waits.0 waiting more ∙ ap (λ t. waits.0 ++ t) (sym behind),
+  )
+
+  -- some of it is said
+  pub waits_less : (later : Option Contents) (left : List ℕ) → Waits (saying c waits.0) waiting left later
+      → Waits c text left later
+  waits_less later left said = (
+    waits.0 ++ said.0,
+    said_both c later waits.0 said.0 (waits.0 ++ said.0) said.1 refl,
+    waits.2 ∙ ap (λ t. waits.0 ++ t) said.2 ∙ sym (append_assoc waits.0 said.0 left),
+  )
+
+  parts_of : (rest whole : List ℕ) → whole ≡ text ++ rest → whole ≡ waits.0 ++ (waiting ++ rest)
+  parts_of rest whole parts = parts ∙ ap (λ t. t ++ rest) waits.2 ∙ append_assoc waits.0 waiting rest
+
+  -- nothing more is said
+  pub waits_front : (rest whole : List ℕ) → whole ≡ text ++ rest → SaidFront c whole now
+  waits_front rest whole parts = front_whole c now waits.0 (waiting ++ rest) whole waits.1 (parts_of rest whole parts)
+
+  -- a front of what waits is said
+  pub waits_broken : (later : Option Contents) (rest whole : List ℕ) → SaidFront (saying c waits.0) waiting later
+      → whole ≡ text ++ rest → SaidFront c whole later
+  waits_broken later rest whole front parts =
+      front_more c later waits.0 waiting rest whole front (parts_of rest whole parts)

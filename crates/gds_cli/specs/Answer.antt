@@ -1,11 +1,12 @@
 -- What each command says and how it ends.
-use Rattle.std.specs.Prelude.{◌≡◌, ◌⊎◌, ℕ, Bool, true, false, MatchBool, List, [], ◌∷◌, ◌++◌, take, Option, Some, None, Result, Ok, Err, codes}
+use Rattle.std.specs.Prelude.{◌≡◌, ◌⊎◌, ℕ, Bool, true, false, MatchBool, List, [], ◌∷◌, ◌++◌, take, Result, Ok, Err, codes}
 use Rattle.std.specs.Fmt.{decimal}
 use Rattle.host_model.specs.Files.{Contents, saying}
-use Rattle.gds_header.specs.declared.kind.HeaderKind.{HeaderKind}
-use Rattle.gds_header.specs.Kinds.{name_of, ending_kind}
+use Rattle.gds_law.specs.declared.fault.Fault.{Fault}
+use Rattle.gds_law.specs.Faults.{AreFaults}
 use Rattle.m_key.specs.Globals.{Globals}
 use Rattle.m_text.specs.Extract.{zwr}
+use Rattle.gds_cli.specs.FaultText.{fault_text}
 use Rattle.gds_cli.specs.Thin.{IsThinWith}
 use Rattle.gds_cli.specs.declared.words.Command.{Command}
 use Rattle.gds_cli.specs.declared.words.Command.TheVariants.{Version, Integ, Extract}
@@ -26,11 +27,17 @@ line text = text ++ 10 ∷ []
 abbrev pub not_built : Reply
 not_built = record { text = line (codes "NOTBUILT"); status = ended.NotBuilt }
 
--- The header kind that ends the reading is the one fault that is told. A header without one isn't read on yet.
-abbrev pub header_reply : Option HeaderKind → Reply
-header_reply (Some kind) =
-    record { text = line (name_of kind ++ codes " file") ++ line (codes "FAULTS 1"); status = ended.Unsound }
-header_reply None = not_built
+-- A file without faults is as it should be.
+abbrev pub list_status : List Fault → Status
+list_status [] = ended.Done
+list_status (fault ∷ faults) = ended.Unsound
+
+abbrev pub list_reply : List Fault → Reply
+list_reply faults = record { text = fault_text faults; status = list_status faults }
+
+-- INTEG says the faults of the database file, in their order, and how many they are.
+abbrev pub FaultsDue : List ℕ → Reply → Type 0
+FaultsDue image reply = (faults : List Fault) × AreFaults image faults × (reply ≡ list_reply faults)
 
 -- An extract says the text of the map that thin files stand for. For other files it isn't built.
 abbrev pub ExtractDue : List ℕ → Contents → Reply → Type 0
@@ -42,7 +49,7 @@ ExtractDue stamp c reply =
 abbrev pub Due : Result Command BadWords → Contents → Reply → Type 0
 Due (Err bad) c reply = reply ≡ record { text = line (codes "BADWORDS " ++ decimal bad.place); status = ended.BadWords }
 Due (Ok Version) c reply = reply ≡ record { text = line (codes "GDSPROF1"); status = ended.Done }
-Due (Ok Integ) c reply = reply ≡ header_reply (ending_kind c.db)
+Due (Ok Integ) c reply = FaultsDue c.db reply
 Due (Ok (Extract stamp)) c reply = ExtractDue stamp.items c reply
 
 -- Which endings the words may have, whatever the device does. Only a database file that is read can meet
@@ -53,7 +60,7 @@ MayEnd (Err bad) ended.BadWords = Unit {0}
 MayEnd (Err bad) ended.Memory = Unit {0}
 MayEnd (Ok Version) ended.Done = Unit {0}
 MayEnd (Ok Integ) ended.Unsound = Unit {0}
-MayEnd (Ok Integ) ended.NotBuilt = Unit {0}
+MayEnd (Ok Integ) ended.Done = Unit {0}
 MayEnd (Ok Integ) ended.Changed = Unit {0}
 MayEnd (Ok Integ) ended.ReadFault = Unit {0}
 MayEnd (Ok Integ) ended.Memory = Unit {0}

@@ -1,5 +1,5 @@
 -- What an extract and its parts have said when they end.
-use Rattle.std.specs.Prelude.{ℕ, ◌≡◌, Bool, true, false, List, take, Option, Some, Result, MatchResult}
+use Rattle.std.specs.Prelude.{ℕ, ◌≡◌, Bool, true, false, List, ◌++◌, take, Option, Some, Result, MatchResult}
 use Rattle.host_model.specs.Files.{Contents, saying}
 use Rattle.m_key.specs.Globals.{Globals}
 use Rattle.m_text.specs.Extract.{zwr}
@@ -25,3 +25,12 @@ SaysThin stamp c false now = ((m : Globals) → IsThinWith c.db c.images m → �
 abbrev pub ExtractEnds : {E : Type 0} → List ℕ → Contents → Result Bool E → Option Contents → Type 0
 ExtractEnds stamp c result now =
     MatchResult result (λ thin. SaysThin stamp c thin now) (λ _. BreaksOff c (ExtractDue stamp c) now)
+
+-- A front of the text was said, and what is left of it waits.
+abbrev pub Waits : Contents → List ℕ → List ℕ → Option Contents → Type 0
+Waits c text waiting now = (said : List ℕ) × (now ≡ Some (saying c said)) × (text ≡ said ++ waiting)
+
+-- Of a text that waited a front was said and the rest waits, or where the work broke off some of it was said.
+abbrev pub SaysOn : {T E : Type 0} → Contents → List ℕ → List ℕ → Result T E → Option Contents → Type 0
+SaysOn c old new result now =
+    MatchResult result (λ _. Waits c old new now) (λ _. (n : ℕ) × (now ≡ Some (saying c (take n old))))

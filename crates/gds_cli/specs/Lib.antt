@@ -5,5 +5,6 @@ pub mod Trouble
 pub mod SoundHeader
 pub mod Leaf
 pub mod Directory
+pub mod FaultText
 pub mod Answer
 pub mod Extract

@@ -1,13 +1,15 @@
-ghost use Rattle.std.specs.Prelude.{◌≡◌, ◌≢◌, ◌⊎◌, false, Some, IfSome};
-ghost use Rattle.host_model.specs.Failures.{NoneRose, Rose, counted};
+ghost use Rattle.std.specs.Prelude.{◌≡◌, ◌≢◌, ◌⊎◌, Some, IfSome};
+ghost use Rattle.std.specs.Option.{ForSome};
+ghost use Rattle.host_model.specs.Failures.{NoneRose, counted};
 ghost use Rattle.host_model.specs.Files.{saying};
 ghost use Rattle.host_model.specs.Frames.{WasUsed};
+ghost use Rattle.gds_sound.specs.Sound.{HasOneMap};
 ghost use Rattle.gds_cli.specs.Words.{command_in};
 ghost use Rattle.gds_cli.specs.Status.{HasCause};
-ghost use Rattle.gds_cli.specs.Answer.{Reply, header_reply, is_break, Answers, Due, Ends, ExtractDue, MayEnd, ReadsNoFile};
-ghost use Rattle.gds_header.specs.Kinds.{ending_kind};
+ghost use Rattle.gds_cli.specs.Answer.{Reply, Due, Ends, ExtractDue, MayEnd, ReadsNoFile};
 
-use crate::header::{Unread, ending_kind};
+use crate::fault_list::tell_faults;
+use crate::saying::say;
 use crate::status::Status;
 use crate::thin::{self, Trouble};
 use crate::words::{BadWords, Command, read_words};
@@ -23,12 +25,7 @@ pub struct Ended<H: Host, I: Source> {
 }
 
 /// Does what the words ask for on the host's files, says the answer, and hands host and input back.
-pub fn gds<H: Host, I: Source>(
-    alloc: Global,
-    words: &[String],
-    mut host: H,
-    input: I,
-) -> Ended<H, I>
+pub fn gds<H: Host, I: Source>(alloc: Global, words: &[String], host: H, input: I) -> Ended<H, I>
     // Over a host that tells: the reply is said, or a front of it where the device failed or memory ran out.
     // Both files stay.
     ensures host { WasUsed H.told H.failures host result.host (λ before after.
@@ -38,6 +35,9 @@ pub fn gds<H: Host, I: Source>(
         (result.status ≡ Status.Memory)
         ⊎ ((reply : Reply) × Due (command_in words.now) before reply
         × (result.status ≡ reply.status) × (H.told result.host ≡ Some (saying before reply.text)))) }
+    // Where INTEG finds no fault the database file stands for exactly one map of globals.
+    ensures one_map { command_in words.now ≡ Ok Command.Integ → result.status ≡ Status.Done
+        → ForSome (H.told host) (λ c. HasOneMap c.db) }
 
     // Over any host.
     ensures status { MayEnd (command_in words.now) result.status }
@@ -45,9 +45,12 @@ pub fn gds<H: Host, I: Source>(
     // A call that reads no file asks the host for its saying alone.
     ensures one_call { ReadsNoFile (command_in words.now) → result.status ≢ Status.Memory
         → H.moment result.host ≡ counted (H.moment host) }
+    // An INTEG that can't read the file says nothing.
+    ensures unread { command_in words.now ≡ Ok Command.Integ → result.status ≡ Status.ReadFault
+        → H.told result.host ≡ H.told host }
     ensures input { result.input ≡ input }
 {
-    let status = answer(alloc, words, &mut host);
+    let (status, host) = answer(alloc, words, host);
     Ended {
         status,
         host,
@@ -56,21 +59,34 @@ pub fn gds<H: Host, I: Source>(
 }
 
 /// Does what the words ask for, and says the answer.
-fn answer<H: Host>(alloc: Global, words: &[String], host: &mut H) -> Status
-    ensures host { WasUsed H.told H.failures host.old host.new (λ before after.
-        Ends (Due (command_in words.now) before) result before after) }
-    ensures status { MayEnd (command_in words.now) result }
-    ensures cause { HasCause result (H.failures host.old) (H.failures host.new) }
-    ensures one_call { ReadsNoFile (command_in words.now) → result ≢ Status.Memory
-        → H.moment host.new ≡ counted (H.moment host.old) }
+fn answer<H: Host>(alloc: Global, words: &[String], mut host: H) -> (Status, H)
+    ensures host { WasUsed H.told H.failures host result.1 (λ before after.
+        Ends (Due (command_in words.now) before) result.0 before after) }
+    ensures unread { command_in words.now ≡ Ok Command.Integ → result.0 ≡ Status.ReadFault
+        → H.told result.1 ≡ H.told host }
+    ensures one_map { command_in words.now ≡ Ok Command.Integ → result.0 ≡ Status.Done
+        → ForSome (H.told host) (λ c. HasOneMap c.db) }
+    ensures status { MayEnd (command_in words.now) result.0 }
+    ensures cause { HasCause result.0 (H.failures host) (H.failures result.1) }
+    ensures one_call { ReadsNoFile (command_in words.now) → result.0 ≢ Status.Memory
+        → H.moment result.1 ≡ counted (H.moment host) }
 {
     match read_words(words) {
-        Ok(Command::Version) => say(host, "GDSPROF1\n", Status::Done),
-        Ok(Command::Integ) => integ(alloc, host),
-        Ok(Command::Extract { stamp }) => extract(alloc, host, &stamp),
+        Ok(Command::Version) => {
+            let status = say(&mut host, "GDSPROF1\n", Status::Done);
+            (status, host)
+        }
+        Ok(Command::Integ) => tell_faults(alloc, host),
+        Ok(Command::Extract { stamp }) => {
+            let status = extract(alloc, &mut host, &stamp);
+            (status, host)
+        }
         Err(BadWords { place }) => match format!(in alloc; "BADWORDS {place}\n") {
-            Ok(text) => say(host, text.as_str(), Status::BadWords),
-            Err(_) => Status::Memory,
+            Ok(text) => {
+                let status = say(&mut host, text.as_str(), Status::BadWords);
+                (status, host)
+            }
+            Err(_) => (Status::Memory, host),
         },
     }
 }
@@ -92,38 +108,5 @@ fn extract<H: Host>(alloc: Global, host: &mut H, stamp: &[u8]) -> Status
             Ok(text) => say(host, text.as_str(), Status::Changed),
             Err(_) => Status::Memory,
         },
-    }
-}
-
-/// Finds the header kind that ends the reading of the database file, and says it.
-fn integ<H: Host>(alloc: Global, host: &mut H) -> Status
-    ensures host { WasUsed H.told H.failures host.old host.new (λ before after.
-        Answers (header_reply (ending_kind before.db)) result before after) }
-    ensures status { MayEnd (Ok Command.Integ) result }
-    ensures cause { HasCause result (H.failures host.old) (H.failures host.new) }
-{
-    match ending_kind(host) {
-        Ok(Some(kind)) => match format!(in alloc; "{} file\nFAULTS 1\n", kind.name()) {
-            Ok(text) => say(host, text.as_str(), Status::Unsound),
-            Err(_) => Status::Memory,
-        },
-        Ok(None) => say(host, "NOTBUILT\n", Status::NotBuilt),
-        Err(Unread::Failed) => Status::ReadFault,
-        Err(Unread::Changed) => say(host, "CHANGED 0\n", Status::Changed),
-    }
-}
-
-/// Says an answer. Its status is that of the call, unless the device fails.
-fn say<H: Host>(host: &mut H, text: &str, status: Status) -> Status
-    requires { is_break status ≡ false }
-    ensures host { WasUsed H.told H.failures host.old host.new
-        (Answers (record { text = text.now; status = status }) result) }
-    ensures status { (result ≡ status) ⊎ (result ≡ Status.SayFault) }
-    ensures fault { result ≡ Status.SayFault → Rose (H.failures host.old).say (H.failures host.new).say }
-    ensures clock { H.moment host.new ≡ counted (H.moment host.old) }
-{
-    match host.say(text.as_bytes()) {
-        Ok(()) => status,
-        Err(_) => Status::SayFault,
     }
 }

@@ -2,8 +2,10 @@
 #![tactic(auto)]
 
 mod call;
-mod header;
+mod fault_list;
+mod fault_text;
 mod laws;
+mod saying;
 mod status;
 mod thin;
 mod words;

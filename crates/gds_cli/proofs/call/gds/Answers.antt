@@ -5,5 +5,5 @@ use Rattle.gds_cli.proofs.call.gds.Goals as goal
 
 pub returns-clause-complete : goal.returns-clause-complete
 returns-clause-complete g c none =
-    complete _ _ (Due (command_in c.args.words.now)) c.answer-status.result _ _ c.answer-status.ensures.host.told
+    complete _ _ (Due (command_in c.args.words.now)) c.answer-status.result.0 _ _ c.answer-status.ensures.host.told
     c.answer-status.ensures.cause none

@@ -1,0 +1,22 @@
+ghost use Rattle.std.specs.Prelude.{◌≡◌, ◌⊎◌, false};
+ghost use Rattle.host_model.specs.Failures.{Rose, counted};
+ghost use Rattle.host_model.specs.Frames.{WasUsed};
+ghost use Rattle.gds_cli.specs.Answer.{Answers, Reply, is_break};
+
+use crate::status::Status;
+use host_model::Host;
+
+/// Says an answer. Its status is that of the call, unless the device fails.
+pub(crate) fn say<H: Host>(host: &mut H, text: &str, status: Status) -> Status
+    requires { is_break status ≡ false }
+    ensures host { WasUsed H.told H.failures host.old host.new
+        (Answers (record { text = text.now; status = status }) result) }
+    ensures status { (result ≡ status) ⊎ (result ≡ Status.SayFault) }
+    ensures fault { result ≡ Status.SayFault → Rose (H.failures host.old).say (H.failures host.new).say }
+    ensures clock { H.moment host.new ≡ counted (H.moment host.old) }
+{
+    match host.say(text.as_bytes()) {
+        Ok(()) => status,
+        Err(_) => Status::SayFault,
+    }
+}
