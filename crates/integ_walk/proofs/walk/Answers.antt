@@ -1,4 +1,4 @@
-use Rattle.std.proofs.Common.{ap, ◌∙◌, arith}
+use Rattle.std.proofs.Common.{◌≤◌, ap, ◌∙◌, arith}
 use Rattle.gds_header.specs.declared.header.Header.{Header}
 use Rattle.gds_law.proofs.KeptLemmas.{some_kept, some_reached}
 use Rattle.gds_law.proofs.SinkLemmas.{OnErr-any}
