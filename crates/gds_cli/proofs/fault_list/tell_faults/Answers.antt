@@ -11,7 +11,7 @@ pub returns-in-Ok-found-clause-host : goal.returns-in-Ok-found-clause-host
 returns-in-Ok-found-clause-host g c =
     let read =
     read_host g.H.Host.told g.H.Host.failures c.args.host _ _ c.into_host-host.result c.new-units.ensures
-    c.into_host-host.ensures c.in-Ok-found.ensures.read in
+    c.into_host-host.ensures c.in-Ok-found.ensures.source in
     let known = is_told _ _ _ _ c.in-Ok.ensures c.in-Ok-found.ensures.told in
     record {
       told = goes_ends (g.H.Host.told c.args.host) (g.H.Host.told c.into_host-host.result) _ (λ x. FaultsDue x.db)
@@ -34,7 +34,7 @@ pub returns-in-Err-Memory-clause-host : goal.returns-in-Err-Memory-clause-host
 returns-in-Err-Memory-clause-host g c =
     let read =
     read_host g.H.Host.told g.H.Host.failures c.args.host _ _ c.into_host-host.result c.new-units.ensures
-    c.into_host-host.ensures c.integ-found.ensures.read in
+    c.into_host-host.ensures c.integ-found.ensures.source in
     record {
       told = goes_quiet _ _ (λ x. FaultsDue x.db) ended.Memory refl read.told;
       failures = read.failures;
@@ -44,7 +44,7 @@ pub returns-in-Err-ReadFault-clause-host : goal.returns-in-Err-ReadFault-clause-
 returns-in-Err-ReadFault-clause-host g c =
     let read =
     read_host g.H.Host.told g.H.Host.failures c.args.host _ _ c.into_host-host.result c.new-units.ensures
-    c.into_host-host.ensures c.integ-found.ensures.read in
+    c.into_host-host.ensures c.integ-found.ensures.source in
     record {
       told = goes_quiet _ _ (λ x. FaultsDue x.db) ended.ReadFault refl read.told;
       failures = read.failures;
