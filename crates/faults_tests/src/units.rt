@@ -39,6 +39,13 @@ impl UnitSource for Units {
 
     ghost failures = { λ units. units.failures };
 
+    // Nothing is said of what a read leaves.
+    ghost was_read = { λ _ _. Unit {0} };
+
+    ghost not_read = { λ _. tt };
+
+    ghost read_on = { λ _ _ _ _ _. tt };
+
     fn length(&mut self) -> Result<u64, UnitTrouble> {
         Ok(self.image.bytes().len() as u64)
     }
