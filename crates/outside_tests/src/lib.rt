@@ -7,5 +7,3 @@ mod crashes;
 mod files;
 #[cfg(test)]
 mod lines;
-#[cfg(test)]
-mod memory;
