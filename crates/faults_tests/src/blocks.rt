@@ -1,7 +1,7 @@
 ghost use Rattle.std.specs.Prelude.{◌≡◌};
 ghost use Rattle.gds_header.specs.Kinds.{IsWithinLimits};
 
-use crate::rows::ROWS;
+use crate::rows::{ROWS, Row};
 use crate::sink::with_room;
 use fixtures::{block, index, leaf};
 use gds_header::Header;
@@ -68,16 +68,22 @@ fn at(place: Place) -> At {
     }
 }
 
+/// The block of a row.
+fn block_of(row: &Row) -> Result<[u8; 512], Fail> {
+    let mut bytes: [u8; 512] = block(row.level, 1, row.records)?;
+    let (place, byte) = row.change;
+    if let Some(changed) = bytes.get_mut(place) {
+        *changed = byte;
+    }
+    Ok(bytes)
+}
+
 #[test]
 fn tells_each_kind(rt: HostRuntime) -> Result<(), Fail> {
     let header = header();
     for row in &ROWS {
         let at = at(row.place);
-        let mut bytes: [u8; 512] = block(row.level, 1, row.records)?;
-        let (place, byte) = row.change;
-        if let Some(changed) = bytes.get_mut(place) {
-            *changed = byte;
-        }
+        let bytes = block_of(row)?;
         let mut sink = with_room(rt.alloc(), 9);
         let mut children = Vec::new(rt.alloc());
         let count = block_faults(&bytes, &at, &header, &mut sink, &mut children)?;
