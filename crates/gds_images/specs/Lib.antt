@@ -1,0 +1,6 @@
+pub mod Chain
+pub mod Group
+pub mod Recovered
+pub mod Same
+pub mod Outcome
+pub mod Laws

@@ -1,0 +1,11 @@
+//! The file of before images: what blocks held at the last epoch, so that a database that was stopped can be laid back.
+//!
+//! The file is a label, gates, and behind each open gate a group of images. A group is written behind a closed gate and
+//! made stable before the gate is opened.
+#![tactic(auto)]
+
+mod chain;
+mod error;
+
+pub use chain::{Chain, Place, Places};
+pub use error::ImagesError;
