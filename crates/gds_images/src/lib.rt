@@ -6,6 +6,8 @@
 
 mod chain;
 mod error;
+mod laws;
 
 pub use chain::{Chain, Place, Places};
 pub use error::ImagesError;
+pub use laws::{lays_back_itself, lays_over_outside, rest_is_found, same_is_equivalence};
