@@ -1,10 +1,10 @@
 -- Steps of reading a block's records.
 use Rattle.std.proofs.Common.{ℕ, ◌≡◌, ◌+◌, ◌≤◌, Bool, true, false, cond, List, [], ◌∷◌, ◌++◌, length, take, drop}
 use Rattle.std.proofs.Common.{Option, Some, None, inl, inr, refl, sym, ◌∙◌, ap, subst, arith, append_assoc}
-use Rattle.std.proofs.Common.{length-append, length-take}
+use Rattle.std.proofs.Common.{length-take}
 use Rattle.std.specs.Prelude.{nat_eq, nat_lt, option_map, option_and_then, IfNone, IfSome}
 use Rattle.std.proofs.lemmas.Bool.{or_cases, ltb-true, eqb-true, eq-eqb, ne_eqb, cond-true, cond-false}
-use Rattle.std.proofs.lemmas.List.{take_at, drop_at, take-append-drop, append-nil}
+use Rattle.std.proofs.lemmas.List.{append-nil}
 use Rattle.std.proofs.lemmas.Option.{cond_some, option_and_then_some, same_Some}
 use Rattle.gds_block.specs.Block.{level_of, used_of}
 use Rattle.gds_block.specs.Record.{Record, full_of, records_of}
@@ -14,7 +14,8 @@ use Rattle.gds_pack.specs.Unpacked.{is_count, leaf_item, index_item, star_item, 
 use Rattle.gds_pack.specs.Unpacked.{entries_of, IsKeyPart}
 use Rattle.gds_pack.specs.Packed.{key_behind}
 use Rattle.gds_pack.proofs.SizeLemmas.{key_behind-append}
-use Rattle.m_key.proofs.KeyEndLemmas.{HasOpenFronts-key_within}
+use Rattle.m_key.proofs.KeyEndLemmas.{HasOpenFronts-key_within, open_front}
+use Rattle.std.proofs.Math.Seq.{take-append-add, drop-append-add}
 
 -- ---- one record
 
@@ -30,12 +31,13 @@ module _ (previous : List ℕ) (r : Record) (open_fronts : HasOpenFronts previou
         | inr h ↦ omega (arith, eqb-true _ _ h)
       ]
 
-  open_front : key_len (take r.count previous) ≡ None
-  open_front =
-      elim (or_cases (nat_lt r.count (length previous)) (nat_eq r.count 0) lawful) [
-        | inl h ↦ open_fronts r.count (ltb-true _ _ h)
-        | inr h ↦ ap (λ n. key_len (take n previous)) (eqb-true _ _ h)
-      ]
+  front : key_len (take r.count previous) ≡ None
+  front =
+      open_front previous r.count open_fronts
+      (elim (or_cases (nat_lt r.count (length previous)) (nat_eq r.count 0) lawful) [
+        | inl h ↦ inr (ltb-true _ _ h)
+        | inr h ↦ inl (eqb-true _ _ h)
+      ])
 
   length-front : length (take r.count previous) ≡ r.count
   length-front = omega (arith, length-take r.count previous, count_within)
@@ -52,27 +54,23 @@ module _ (previous : List ℕ) (r : Record) (open_fronts : HasOpenFronts previou
       → key_within 255 (full_of previous r) ≡ option_map (λ n. length (take r.count previous) + n) o
 
   pub IfNone-leaf_item : (o : Option ℕ) → Says o → IfNone o (leaf_item previous r ≡ None)
-  IfNone-leaf_item None says = leaf_item-is None (says open_front)
+  IfNone-leaf_item None says = leaf_item-is None (says front)
   IfNone-leaf_item (Some n) says = tt
 
   pub IfSome-IsKeyPart : (o : Option ℕ) → Says o → IfSome o (λ n. n ≤ length r.body)
       → IfSome o (λ n. length (take r.count previous) + n ≤ 255) → IfSome o (IsKeyPart previous r)
   IfSome-IsKeyPart None says within short = tt
   IfSome-IsKeyPart (Some n) says within short =
-      let front = take r.count previous in
-      let at = length front + n in
-      let parts : full_of previous r ≡ (front ++ take n r.body) ++ drop n r.body =
-      ap (λ xs. front ++ xs) (sym (take-append-drop n r.body))
-      ∙ sym (append_assoc front (take n r.body) (drop n r.body)) in
-      let long : length (front ++ take n r.body) ≡ at =
-      omega (arith, length-append front (take n r.body), length-take n r.body) in
-      let key = ap (take at) parts ∙ take_at (front ++ take n r.body) (drop n r.body) at long in
-      let rest = ap (drop at) parts ∙ drop_at (front ++ take n r.body) (drop n r.body) at long in
+      let first = take r.count previous in
+      let key = take-append-add first r.body n in
+      let rest = drop-append-add first r.body n in
       record {
         count_within = count_within;
         within = within;
         short = omega (arith, length-front);
-        read = leaf_item-is (Some at) (says open_front) ∙ ap Some (λ k. record { key = key k; rest = rest k });
+        read =
+            leaf_item-is (Some (length first + n)) (says front)
+            ∙ ap Some (λ k. record { key = key k; rest = rest k });
       }
 
 pub leaf_item-unlawful : (previous : List ℕ) (r : Record) → is_count previous r.count ≡ false
