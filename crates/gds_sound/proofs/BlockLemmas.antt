@@ -30,6 +30,7 @@ use Rattle.gds_law.specs.declared.kind.FaultKind.{FaultKind}
 use Rattle.gds_law.specs.declared.kind.FaultKind.TheVariants.{WrongLevel, RestNotPointer, PointerNotPositive}
 use Rattle.gds_law.specs.declared.kind.FaultKind.TheVariants.{PointerTooLarge, PointerToMap}
 use Rattle.gds_law.proofs.MembershipLemmas.{IsIn, in_either}
+use Rattle.gds_law.proofs.RankLemmas.{is_asked}
 
 -- ---- empty lists
 
@@ -101,9 +102,6 @@ pub record IsCleanBlock (b : BlockReading) (bytes : List ℕ) : Type 0 where
   pub head : list_any ends (kinds_of_head b bytes) ≡ false
   pub level : is_wrong_level b.visit.level b.level ≡ false
   pub records : CleanRecords b [] (records_of bytes)
-
-is_asked : IsIn head_kinds WrongLevel
-is_asked = inr (inr (inr (inr (inr (inl refl)))))
 
 head_level : (b : BlockReading) (bytes : List ℕ) → kinds_of_head b bytes ≡ []
     → is_wrong_level b.visit.level b.level ≡ false
