@@ -1,0 +1,4 @@
+pub mod FrameLemmas
+pub mod UseLemmas
+pub mod ItemLemmas
+pub mod SameLemmas

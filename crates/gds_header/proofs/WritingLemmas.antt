@@ -118,7 +118,7 @@ fields_of-header_bytes h fit =
     (ap (take 256) master ∙ take_at h.master _ 256 fit.master)
 
 -- The header of a database within its limits is read.
-limits_tested : (h : Header) → IsWithinLimits h → ((h.block_size == 0 || not (h.block_size % 512 == 0)) ≡ false) × (nat_lt 65024 h.block_size ≡ false) × ((h.total == 0) ≡ false) × (keeps_limits h ≡ true)
+pub limits_tested : (h : Header) → IsWithinLimits h → ((h.block_size == 0 || not (h.block_size % 512 == 0)) ≡ false) × (nat_lt 65024 h.block_size ≡ false) × ((h.total == 0) ≡ false) × (keeps_limits h ≡ true)
 limits_tested h limits = (grind (arith, nat_tests, limits.block_multiple, limits.block_from), grind (arith, nat_tests, limits.block_to), grind (arith, nat_tests, limits.total_from), grind (arith, nat_tests))
 
 readable : (bytes : List ℕ) → starts_with nat_eq bytes label ≡ true → IsWithinLimits (fields_of bytes) → unreadable bytes ≡ None
