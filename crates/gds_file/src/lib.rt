@@ -3,4 +3,4 @@
 
 mod laws;
 
-pub use laws::same_carries_over;
+pub use laws::{maps_in_two_parts, reshapes, same_carries_over};
