@@ -4,3 +4,6 @@ pub mod ItemLemmas
 pub mod SameLemmas
 pub mod RightMapLemmas
 pub mod ReshapeLemmas
+pub mod ExchangeLemmas
+pub mod FileLemmas
+pub mod StampLemmas

@@ -3,4 +3,6 @@
 
 mod laws;
 
-pub use laws::{maps_in_two_parts, reshapes, same_carries_over};
+pub use laws::{
+    file_stays_sound, maps_in_two_parts, reshapes, same_carries_over, stamp_keeps_trees,
+};

@@ -1,18 +1,19 @@
 -- Headers with which nothing is wrong.
-use Rattle.std.proofs.Common.{◌≡◌, ℕ, ◌≤◌, ◌==◌, ◌%◌, ◌^◌, Bool, true, false, not, ◌||◌, List, []}
-use Rattle.std.proofs.Common.{◌∷◌, ◌++◌, length, take, drop, filter, find, None, inl, inr, refl, sym, ap, ◌∙◌, arith}
+use Rattle.std.proofs.Common.{◌≡◌, ℕ, ◌+◌, ◌*◌, ◌<◌, ◌≤◌, ◌==◌, ◌%◌, ◌^◌, Bool, true, false, not, ◌||◌, List, []}
+use Rattle.std.proofs.Common.{length-drop, ◌∷◌, ◌++◌, length, take, drop, filter, find, None, inl, inr, refl, sym, ap, ◌∙◌, arith}
 use Rattle.std.specs.Prelude.{nat_eq, nat_lt, slice_range}
 use Rattle.std.specs.List.{starts_with, list_any}
 use Rattle.std.specs.Cmp.Lexicographic.{pointwise}
-use Rattle.std.proofs.lemmas.Bool.{not_from_true, ne_eqb, le-ltb, or_from}
-use Rattle.std.proofs.lemmas.List.{take-take}
+use Rattle.std.proofs.lemmas.Bool.{not_from_true, ne_eqb, le-ltb, ltb-false, or_from}
+use Rattle.std.proofs.lemmas.List.{take-take, length-take-le}
+use Rattle.std.proofs.Math.Nat.{mul-le-mul_right}
 use Rattle.std.proofs.lemmas.Slice.{between_is}
 use Rattle.gds_header.specs.declared.header.Header.{Header}
 use Rattle.gds_header.specs.declared.kind.HeaderKind.{HeaderKind}
 use Rattle.gds_header.specs.declared.kind.HeaderKind.TheVariants.{ShortHeader, NotDatabase, BlockSizeNotMultiple}
 use Rattle.gds_header.specs.declared.kind.HeaderKind.TheVariants.{BlockSizeTooLarge, NoBlocks, BadLimit, ShortFile}
 use Rattle.gds_header.specs.declared.kind.HeaderKind.TheVariants.{LongFile, ReservedByte, BadTransactionNumber}
-use Rattle.gds_header.specs.Fields.{label, fields_of, image_length, file_length_of}
+use Rattle.gds_header.specs.Fields.{label, fields_of, block_of, image_length, file_length_of}
 use Rattle.gds_header.specs.Kinds.{IsWithinLimits, keeps_limits, holds, ends, kinds, through_first, header_faults}
 use Rattle.gds_header.specs.Kinds.{unreadable, reserved_bytes, groups_past, has_free}
 use Rattle.gds_header.proofs.EndingLemmas.{within_limits, fields_of-front}
@@ -145,3 +146,21 @@ same_header_faults a b len front =
     same kind =
         holds-held a kind ∙ (λ i. held (len i) (labels i) (same_fields a b front i) (reserved i) kind)
         ∙ sym (holds-held b kind)
+
+-- ---- blocks of a file whose header is right
+
+-- a part of a list, of the size that all parts before it and behind it have
+part_length : (xs : List ℕ) (front n total size : ℕ) → n < total → front + total * size ≤ length xs
+    → length (take size (drop (front + n * size) xs)) ≡ size
+part_length xs front n total size low long =
+    let fits : (n + 1) * size ≤ total * size = mul-le-mul_right size (omega (arith, low)) in
+    length-take-le size (drop (front + n * size) xs)
+    (omega (arith, fits, long, length-drop (front + n * size) xs))
+
+-- Each block that the file has is whole.
+pub block_whole : (image : List ℕ) (n : ℕ) → header_faults image ≡ [] → n < (fields_of image).total
+    → length (block_of image n) ≡ (fields_of image).block_size
+block_whole image n h low =
+    part_length image 8192 n (fields_of image).total (fields_of image).block_size low
+    (ltb-false (length image) (image_length image)
+    (none_of_header image h ShortFile (inr (inr (inr (inr (inr (inr (inl refl)))))))))
