@@ -75,7 +75,7 @@ pub record IsCleanRecord (b : BlockReading) (s : PlacedRecord) : Type 0 where
   pub none : (kind : FaultKind) → IsIn record_kinds kind → holds b s kind ≡ false
   pub goes_on : is_ended b s ≡ false
 
-clean_record : (b : BlockReading) (s : PlacedRecord) → kinds_of b s ≡ [] → IsCleanRecord b s
+pub clean_record : (b : BlockReading) (s : PlacedRecord) → kinds_of b s ≡ [] → IsCleanRecord b s
 unfolding kinds_of is_ended
 clean_record b s h = record {
   none = filter_nil (holds b s) record_kinds (through_nil ends (filter (holds b s) record_kinds) h);
@@ -143,7 +143,7 @@ pointer_sound p total size multiple h k l =
       | inr e ↦ and_from (nat_lt 0 p && nat_lt p total) (not multiple) both (not_from_false multiple e)
     ]
 
-asked_not_positive : IsIn record_kinds PointerNotPositive
+pub asked_not_positive : IsIn record_kinds PointerNotPositive
 asked_not_positive =
     inr (inr (inr (inr (inr (inr (inr (inr (inr
     (inr (inr (inr (inr (inr (inr (inr (inr (inr (inr (inl refl)))))))))))))))))))

@@ -334,11 +334,11 @@ same_rising {A} c total (x ∷ xs) (y ∷ ys) r s h k =
 -- ---- the law
 
 module _ (image : List ℕ) (tree : Tree) (globals : List Tree) (m : Globals) (s : IsSound image tree globals) where
-  value_in : (kept : List Steps) → AreKept image kept → (item : Item) → Contains (flat_map (values_at image) kept) item
-      → IsIn (flat_map (λ t. t.items) globals) item
+  pub value_in : (kept : List Steps) → AreKept image kept → (item : Item)
+      → Contains (flat_map (values_at image) kept) item → IsIn (flat_map (λ t. t.items) globals) item
   value_in kept a item c = values_to image kept globals (all_rooted image tree globals s) a s.global_trees item c
 
-  in_value : (kept : List Steps) → AreKept image kept → (item : Item) → IsIn (flat_map (λ t. t.items) globals) item
+  pub in_value : (kept : List Steps) → AreKept image kept → (item : Item) → IsIn (flat_map (λ t. t.items) globals) item
       → Contains (flat_map (values_at image) kept) item
   in_value kept a item i =
       values_from image kept tree globals (kept_from_apart image kept a (sound_apart image tree globals s))

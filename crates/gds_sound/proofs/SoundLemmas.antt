@@ -114,7 +114,7 @@ build_root : (image : List ℕ) (v : Visit) → IsClean image v → IsBuilt imag
 build_root image v h = build image (level_at image v) v h refl
 
 -- the trees of entries
-abbrev AreTrees : List ℕ → List Item → List Tree → Type 0
+abbrev pub AreTrees : List ℕ → List Item → List Tree → Type 0
 AreTrees image items globals = AllZip (λ entry tree. tree_at image (root_of entry) ≡ Some tree) items globals
 
 build_globals : (image : List ℕ) (items : List Item) → RootsClean image directory items
@@ -145,10 +145,10 @@ tree_blocks image (entry ∷ items) (t ∷ ts) h =
     λ i. first i ++ tree_blocks image items ts h.1 i
 
 -- Each block is as often in the trees as at the ends of paths.
-abbrev blocks_of : Tree → List Tree → List ℕ
+abbrev pub blocks_of : Tree → List Tree → List ℕ
 blocks_of tree globals = tree.blocks ++ flat_map (λ t. t.blocks) globals
 
-all_counted : (image : List ℕ) (tree : Tree) (globals : List Tree) → tree_at image directory_root ≡ Some tree
+pub all_counted : (image : List ℕ) (tree : Tree) (globals : List Tree) → tree_at image directory_root ≡ Some tree
     → AreTrees image tree.items globals
     → (x : ℕ) → count x (all_blocks image 16 directory_root) ≡ count x (blocks_of tree globals)
 all_counted image tree globals h zip x =
