@@ -74,7 +74,7 @@ pub record IsCleanRecord (b : BlockReading) (s : PlacedRecord) : Type 0 where
   pub none : (kind : FaultKind) → IsIn record_kinds kind → holds b s kind ≡ false
   pub goes_on : is_ended b s ≡ false
 
-clean_record : (b : BlockReading) (s : PlacedRecord) → kinds_of b s ≡ [] → IsCleanRecord b s
+pub clean_record : (b : BlockReading) (s : PlacedRecord) → kinds_of b s ≡ [] → IsCleanRecord b s
 unfolding kinds_of is_ended
 clean_record b s h = record {
   none = filter_nil (holds b s) record_kinds (through_nil ends (filter (holds b s) record_kinds) h);
@@ -234,7 +234,7 @@ no_pointer true due four x y l d = absurd (cc)
 no_pointer false true four x y l d = absurd (cc)
 no_pointer false false four x y l d = refl
 
-value_children : (b : BlockReading) (previous : List ℕ) (rs : List Record) → (b.level == 0) ≡ true → points b ≡ false
+pub value_children : (b : BlockReading) (previous : List ℕ) (rs : List Record) → (b.level == 0) ≡ true → points b ≡ false
     → children_from b previous rs ≡ []
 value_children b previous [] z d = refl
 value_children b previous (r ∷ rs) z d =

@@ -1,0 +1,12 @@
+pub mod EntryLemmas
+pub mod UsedLemmas
+pub mod TestLemmas
+pub mod ReadLemmas
+pub mod HeadLemmas
+pub mod RightLemmas
+pub mod CleanLemmas
+pub mod FineLemmas
+pub mod IndexLemmas
+pub mod PackedLemmas
+pub mod FaultlessLemmas
+pub mod BytesLemmas

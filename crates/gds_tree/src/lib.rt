@@ -1,0 +1,7 @@
+//! Laws about one tree of a file: which blocks are right, what stands below them, and what a change of a tree leaves
+//! sound. They have no code; each is a function whose contract is the law.
+#![tactic(auto)]
+
+mod block_laws;
+
+pub use block_laws::{block_by_entries, packed_block, right_block, used_bytes};
