@@ -10,3 +10,9 @@ pub mod IndexLemmas
 pub mod PackedLemmas
 pub mod FaultlessLemmas
 pub mod BytesLemmas
+pub mod ImageLemmas
+pub mod TreeByLemmas
+pub mod BelowLemmas
+pub mod KeepLemmas
+pub mod PartLemmas
+pub mod KeptTreeLemmas

@@ -51,12 +51,15 @@ abbrev pub low_behind : Option (List ℕ) → List Item → Option (List ℕ)
 low_behind low [] = low
 low_behind low (e ∷ es) = low_behind (Some e.key) es
 
+-- two trees together, where both are there
+abbrev pub both : Option Tree → Option Tree → Option Tree
+both a b = option_and_then (λ t. option_map (joined t) b) a
+
 -- the sound trees below entries of an index block one after another, whose children have this level, together
 abbrev pub trees_below : List ℕ → Visit → ℕ → Option (List ℕ) → List Item → Option Tree
 trees_below image v level low [] = Some (record { blocks = []; items = [] })
 trees_below image v level low (e ∷ es) =
-    option_and_then (λ t. option_map (joined t) (trees_below image v level (Some e.key) es))
-    (sound_tree image level (visit_below v level low e))
+    both (sound_tree image level (visit_below v level low e)) (trees_below image v level (Some e.key) es)
 
 -- The block of a visit is there, has this level, and is right with these entries.
 pub record HasEntries (image : List ℕ) (v : Visit) (height : ℕ) (entries : List Item) : Type 0 where
