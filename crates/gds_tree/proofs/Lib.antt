@@ -16,3 +16,4 @@ pub mod BelowLemmas
 pub mod KeepLemmas
 pub mod PartLemmas
 pub mod KeptTreeLemmas
+pub mod WidenLemmas

@@ -4,7 +4,7 @@ ghost use Rattle.gds_header.specs.Fields.{fields_of};
 ghost use Rattle.gds_law.specs.Visit.{Visit};
 ghost use Rattle.gds_sound.specs.Sound.{Tree, sound_tree, tree_at};
 ghost use Rattle.gds_tree.specs.Below.{trees_below, HasEntries, leaf_tree, index_tree};
-ghost use Rattle.gds_tree.specs.Keeps.{IsImage, KeepsSizes, KeepsBlocks, IsWithinTotal};
+ghost use Rattle.gds_tree.specs.Keeps.{IsImage, KeepsSizes, KeepsBlocks, IsWithinTotal, IsWider};
 
 /// A tree is sound exactly where its root's block is right: at level 0 its items are the block's entries, and above it
 /// what stands below them are sound trees.
@@ -33,4 +33,11 @@ pub fn kept_tree()
     ensures cut { (old new : List ℕ) (v : Visit) (level : ℕ) (t : Tree) → IsImage old → IsImage new
         → KeepsSizes old new → IsWithinTotal (fields_of new).total v.role t → v.block < (fields_of old).total
         → sound_tree old level v ≡ Some t → KeepsBlocks old new t.blocks → sound_tree new level v ≡ Some t }
+{}
+
+/// A sound tree is so, with the same blocks and items, within wider bounds.
+pub fn widened_tree()
+    ensures { (image : List ℕ) (wide v : Visit) (level : ℕ) (t : Tree) → IsImage image
+        → v.block < (fields_of image).total → IsWider wide v → sound_tree image level v ≡ Some t
+        → sound_tree image level wide ≡ Some t }
 {}
