@@ -17,3 +17,4 @@ pub mod KeepLemmas
 pub mod PartLemmas
 pub mod KeptTreeLemmas
 pub mod WidenLemmas
+pub mod ItemLemmas

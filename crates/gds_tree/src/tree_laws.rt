@@ -1,9 +1,10 @@
-ghost use Rattle.std.specs.Prelude.{◌≡◌, ◌<◌, ◌≤◌, ℕ, suc, List, Some};
+ghost use Rattle.std.specs.Prelude.{◌≡◌, ◌<◌, ◌≤◌, ◌++◌, ◌∷◌, ℕ, suc, List, Option, Some, All};
 ghost use Rattle.gds_block.specs.Item.{Item};
 ghost use Rattle.gds_header.specs.Fields.{fields_of};
 ghost use Rattle.gds_law.specs.Visit.{Visit};
-ghost use Rattle.gds_sound.specs.Sound.{Tree, sound_tree, tree_at};
-ghost use Rattle.gds_tree.specs.Below.{trees_below, HasEntries, leaf_tree, index_tree};
+ghost use Rattle.gds_sound.specs.Sound.{Tree, joined, sound_tree, tree_at};
+ghost use Rattle.gds_tree.specs.Below.{visit_below, low_behind, both, trees_below, HasEntries, leaf_tree, index_tree};
+ghost use Rattle.gds_tree.specs.Lawful.{IsTreeNumber, IsLawful};
 ghost use Rattle.gds_tree.specs.Keeps.{IsImage, KeepsSizes, KeepsBlocks, IsWithinTotal, IsWider};
 
 /// A tree is sound exactly where its root's block is right: at level 0 its items are the block's entries, and above it
@@ -40,4 +41,29 @@ pub fn widened_tree()
     ensures { (image : List ℕ) (wide v : Visit) (level : ℕ) (t : Tree) → IsImage image
         → v.block < (fields_of image).total → IsWider wide v → sound_tree image level v ≡ Some t
         → sound_tree image level wide ≡ Some t }
+{}
+
+/// The blocks of a sound tree below a root with a sound number are above 0, below the total and no maps. Its items are
+/// lawful entries of one level-0 block at its visit: their keys rise and lie within the bounds.
+pub fn tree_content()
+    ensures blocks { (image : List ℕ) (v : Visit) (level : ℕ) (t : Tree) → IsImage image
+        → IsTreeNumber (fields_of image).total v.block → sound_tree image level v ≡ Some t
+        → All (IsTreeNumber (fields_of image).total) t.blocks }
+    ensures items { (image : List ℕ) (v : Visit) (level : ℕ) (t : Tree) → IsImage image
+        → v.block < (fields_of image).total → sound_tree image level v ≡ Some t
+        → IsLawful (fields_of image) v 0 t.items }
+{}
+
+/// What stands below entries one after another is what stands below the first of them and then below the others.
+pub fn trees_in_parts()
+    ensures two { (image : List ℕ) (v : Visit) (level : ℕ) (low : Option (List ℕ)) (a b : List Item)
+        → trees_below image v level low (a ++ b)
+        ≡ both (trees_below image v level low a) (trees_below image v level (low_behind low a) b) }
+    ensures three { (image : List ℕ) (v : Visit) (level : ℕ) (low : Option (List ℕ)) (a b : List Item) (e : Item)
+        → trees_below image v level low (a ++ e ∷ b)
+        ≡ both (trees_below image v level low a)
+        (both (sound_tree image level (visit_below v level (low_behind low a) e)) (trees_below image v level (Some e.key) b)) }
+    ensures some { (a b : Option Tree) (x y : Tree) → a ≡ Some x → b ≡ Some y → both a b ≡ Some (joined x y) }
+    ensures of_some { (a b : Option Tree) (t : Tree) → both a b ≡ Some t
+        → (x y : Tree) × (a ≡ Some x) × (b ≡ Some y) × (t ≡ joined x y) }
 {}
