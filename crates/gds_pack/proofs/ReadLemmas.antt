@@ -219,7 +219,7 @@ AreSized-packable zero is h room = AreSized-leaves [] is (inl refl) h (omega ari
 AreSized-packable (suc level) is h room = AreSized-index level [] is (inl refl) h (omega arith)
 
 -- What the packed records say, by the level.
-items-packed : (level : ℕ) (is : List Item) → ArePackable level is
+pub items-packed : (level : ℕ) (is : List Item) → ArePackable level is
     → cond (nat_eq level 0) (leaf_items [] (packed_records 16 [] is)) (index_items [] (packed_records 16 [] is))
     ≡ Some is
 items-packed zero is h = leaf_items-packed 16 [] is (inl refl) h

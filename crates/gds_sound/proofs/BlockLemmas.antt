@@ -232,7 +232,7 @@ no_pointer true due four x y l d = absurd (cc)
 no_pointer false true four x y l d = absurd (cc)
 no_pointer false false four x y l d = refl
 
-value_children : (b : BlockReading) (previous : List ℕ) (rs : List Record) → (b.level == 0) ≡ true → points b ≡ false
+pub value_children : (b : BlockReading) (previous : List ℕ) (rs : List Record) → (b.level == 0) ≡ true → points b ≡ false
     → children_from b previous rs ≡ []
 value_children b previous [] z d = refl
 value_children b previous (r ∷ rs) z d =

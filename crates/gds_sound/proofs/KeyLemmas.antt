@@ -36,7 +36,7 @@ use Rattle.gds_sound.proofs.ValueLemmas.{forest_item}
 
 -- ---- its end
 
-some_end : (o : Option ℕ) (most n : ℕ) → (is_none o && nat_lt most n) ≡ false → (is_none o && nat_le n most) ≡ false
+pub some_end : (o : Option ℕ) (most n : ℕ) → (is_none o && nat_lt most n) ≡ false → (is_none o && nat_le n most) ≡ false
     → (m : ℕ) × (o ≡ Some m)
 some_end (Some m) most n h k = (m, refl)
 some_end None most n h k = absurd (omega (arith, ltb-false most n h, leb-false n most k))
@@ -47,7 +47,7 @@ asked_long = inr (inr (inr (inr (inl refl))))
 asked_end : IsIn record_kinds KeyWithoutEnd
 asked_end = inr (inr (inr (inr (inr (inl refl)))))
 
-key_whole : (b : BlockReading) (s : PlacedRecord) → IsCleanRecord b s → is_last b s ≡ false
+pub key_whole : (b : BlockReading) (s : PlacedRecord) → IsCleanRecord b s → is_last b s ≡ false
     → key_len (key_of b s) ≡ Some (length (key_of b s))
 key_whole b s c l =
     let e = some_end (key_end b s) b.header.key_max (length (full_of s))
@@ -138,7 +138,7 @@ no_kind : (o : Option FaultKind) → IsKeyKind o
 no_kind None k h = refl
 no_kind (Some kind) k h = absurd (true≢false (sym (same_kind kind k) ∙ h kind k))
 
-key_right : (b : BlockReading) (s : PlacedRecord) → IsCleanRecord b s → is_last b s ≡ false
+pub key_right : (b : BlockReading) (s : PlacedRecord) → IsCleanRecord b s → is_last b s ≡ false
     → key_fault (key_of b s) ≡ None
 key_right b s c l =
     no_kind (key_fault (key_of b s)) (key_kind (key_of b s))
