@@ -6,8 +6,10 @@
 
 mod chain;
 mod error;
+mod group;
 mod laws;
 
 pub use chain::{Chain, Place, Places};
 pub use error::ImagesError;
+pub use group::Group;
 pub use laws::{lays_back_itself, lays_over_outside, rest_is_found, same_is_equivalence};

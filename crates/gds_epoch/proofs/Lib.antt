@@ -1,0 +1,2 @@
+mod SearchLemmas
+pub mod StateLemmas
