@@ -1,6 +1,6 @@
 -- How counts of failures compose over calls.
 use Rattle.std.proofs.Common.{ℕ, ◌≤◌, arith}
-use Rattle.host_model.specs.Failures.{Failures, NeverFell, Rose, counted}
+use Rattle.host_model.specs.Failures.{Failures, NeverFell, Rose}
 
 pub Rose-then : (before now later : ℕ) → Rose before now → now ≤ later → Rose before later
 Rose-then before now later rose le = omega arith

@@ -1,6 +1,6 @@
 -- How frames of hosts compose over calls.
 use Rattle.std.proofs.Common.{◌≡◌, ℕ, Option, None, Some, refl, ◌∙◌, sym, subst}
-use Rattle.host_model.specs.Failures.{Failures, NeverFell}
+use Rattle.host_model.specs.Failures.{Failures}
 use Rattle.host_model.specs.Files.{Contents}
 use Rattle.host_model.specs.Frames.{ChangedNothing, WasCalled, WasRead, WasUsed}
 use Rattle.host_model.specs.Told.{TellsOn}

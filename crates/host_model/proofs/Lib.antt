@@ -1,3 +1,4 @@
+pub mod ChainLemmas
 pub mod FailureLemmas
 pub mod FileLemmas
 pub mod FrameLemmas

@@ -1,10 +1,12 @@
 -- How what holds of each moment composes over calls.
-use Rattle.std.proofs.Common.{◌≡◌, ℕ, ◌≤◌, ◌⊎◌, Option, arith, inl, inr, ⊎_elim}
+use Rattle.std.proofs.Common.{ℕ, ◌≤◌, List, Option, arith, inl, inr, ⊎_elim}
+use Rattle.host_model.specs.declared.host.FileNo.{FileNo}
 use Rattle.host_model.specs.Files.{Contents}
-use Rattle.host_model.specs.Disk.{Elapses}
+use Rattle.host_model.specs.Disk.{Changes, Cut, Elapses, Follows, SaysSome, Torn, during}
 use Rattle.host_model.specs.Failures.{Failures}
-use Rattle.host_model.specs.Frames.{ChangedNothing}
-use Rattle.host_model.specs.Moments.{LeavesOnly, LeavesTheSame}
+use Rattle.host_model.specs.Frames.{ChangedNothing, WasCalled}
+use Rattle.host_model.specs.Moments.{EachLeft, LeavesBy, LeavesOnly, LeavesTheSame}
+use Rattle.host_model.proofs.FileLemmas.{Changes-refl, Cut-refl, SaysSome-refl, Torn-refl}
 
 module _ {H : Type 0} (moment : H → ℕ) (left_since : H → ℕ → Contents → Type 0) where
   -- one call: what it may leave has P, and so has what a crash before it leaves
@@ -17,6 +19,11 @@ module _ {H : Type 0} (moment : H → ℕ) (left_since : H → ℕ → Contents 
     each = λ c left. ⊎_elim (had c) (has c) (time.nothing_else (moment old) c (omega arith) left);
     before = λ t c le left. ⊎_elim inl (λ l. inr (has c l)) (time.nothing_else t c le left);
   }
+
+  -- no call
+  pub no_call : (host : H) (P : Contents → Type 0)
+      → EachLeft moment left_since host P → LeavesOnly moment left_since host host P
+  no_call host P each = record { later = omega arith; each = each; before = λ t c le left. inl left }
 
   -- one stretch of time after another
   pub then_more : (old mid new : H) (P : Contents → Type 0)
@@ -66,3 +73,55 @@ module _ {H : Type 0} (moment : H → ℕ) (left_since : H → ℕ → Contents 
     keeps = kept.called.time.keeps;
     stays = kept.crash;
   }
+
+  -- a stretch of time in which crashes find no difference
+  pub same_only : (old new : H) (P : Contents → Type 0)
+      → LeavesTheSame moment left_since old new → EachLeft moment left_since old P
+      → LeavesOnly moment left_since old new P
+  same_only old new P same each = record {
+    later = same.later;
+    each = λ c left. each c (same.nothing_new (moment old) c (omega arith) left);
+    before = λ t c le left. inl (same.nothing_new t c le left);
+  }
+
+  -- one call by a step that may also change nothing
+  pub by_call : (step : Contents → Contents → Type 0) (old new : H) (leaves : Contents → Type 0)
+      → Elapses (moment old) (moment new) (left_since old) (left_since new) leaves
+      → ((c : Contents) → step c c) → ((c : Contents) → leaves c → during step (left_since old (moment old)) c)
+      → LeavesBy moment left_since step old new
+  by_call step old new leaves time same has =
+      one_call old new leaves (during step (left_since old (moment old))) time (λ c left. (c, left, same c)) has
+
+  -- a write
+  pub by_write : (counts : H → Failures) (file : FileNo) (at n : ℕ) (old new : H)
+      → Follows (Changes file (Torn at n)) (left_since old (moment old)) (left_since new (moment new))
+      → WasCalled moment counts left_since old new (left_since new (moment new))
+      → LeavesBy moment left_since (Changes file (Torn at n)) old new
+  by_write counts file at n old new crash called =
+      by_call (Changes file (Torn at n)) old new (left_since new (moment new)) called.time
+      (Changes-refl file (Torn at n) (Torn-refl at n)) crash
+
+  -- a cut
+  pub by_cut : (counts : H → Failures) (file : FileNo) (n : ℕ) (old new : H)
+      → Follows (Changes file (Cut n)) (left_since old (moment old)) (left_since new (moment new))
+      → WasCalled moment counts left_since old new (left_since new (moment new))
+      → LeavesBy moment left_since (Changes file (Cut n)) old new
+  by_cut counts file n old new crash called =
+      by_call (Changes file (Cut n)) old new (left_since new (moment new)) called.time
+      (Changes-refl file (Cut n) (Cut-refl n)) crash
+
+  -- a saying
+  pub by_saying : (counts : H → Failures) (bytes : List ℕ) (old new : H)
+      → WasCalled moment counts left_since old new (during (SaysSome bytes) (left_since old (moment old)))
+      → LeavesBy moment left_since (SaysSome bytes) old new
+  by_saying counts bytes old new called =
+      by_call (SaysSome bytes) old new (during (SaysSome bytes) (left_since old (moment old))) called.time
+      (SaysSome-refl bytes) (λ c step. step)
+
+  -- a call that changed nothing
+  pub by_kept : (contents : H → Option Contents) (counts : H → Failures) (step : Contents → Contents → Type 0)
+      (old new : H) → ((c : Contents) → step c c) → ChangedNothing contents moment counts left_since old new
+      → LeavesBy moment left_since step old new
+  by_kept contents counts step old new same kept =
+      by_call step old new (left_since new (moment new)) kept.called.time same
+      (λ c left. (c, kept.crash c left, same c))

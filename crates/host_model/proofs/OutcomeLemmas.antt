@@ -1,12 +1,15 @@
--- What each crash leaves, call by call: a chain of predicates, each from the one before by one call of the host.
-use Rattle.std.proofs.Common.{◌≡◌, ℕ, ◌≤◌, List, Option, None, Some, IfSome, arith, inl, refl}
+-- What each crash leaves after one call of a host more, and after a barrier.
+use Rattle.std.proofs.Common.{◌≡◌, ℕ, List, ◌++◌, take, Option, None, Some, Result, Ok, Err, IfSome, OnOk}
+use Rattle.std.proofs.Common.{refl, ◌∙◌, sym, ap, subst}
 use Rattle.host_model.specs.declared.host.FileNo.{FileNo}
-use Rattle.host_model.specs.Files.{Contents, file_of}
-use Rattle.host_model.specs.Disk.{Elapses, Follows, SaysSome, Settles, during}
-use Rattle.host_model.specs.Failures.{Failures}
-use Rattle.host_model.specs.Frames.{ChangedNothing, WasCalled}
-use Rattle.host_model.specs.Moments.{EachLeft, HasCome, LeavesOnly}
-use Rattle.host_model.proofs.MomentLemmas.{one_call, then_more, weaker}
+use Rattle.host_model.specs.declared.host.FileNo.TheVariants.{Db, Images}
+use Rattle.host_model.specs.Files.{Contents, file_of, saying, with_file}
+use Rattle.host_model.specs.Disk.{Changes, Cut, Follows, SaysSome, Settles, Stays, Torn, during, written}
+use Rattle.host_model.specs.Moments.{EachLeft}
+use Rattle.host_model.specs.Told.{TellsOn}
+use Rattle.host_model.specs.Outcomes.{AfterCut, AfterSaid, AfterSaying, AfterSync, AfterWrite}
+use Rattle.host_model.proofs.FileLemmas.{contents_agree, file_changed}
+use Rattle.host_model.proofs.FrameLemmas.{TellsOn-some}
 
 -- a fact of a host that may tell, where it tells
 pub if_told : (told : Option Contents) (P : Contents → Type 0)
@@ -14,92 +17,107 @@ pub if_told : (told : Option Contents) (P : Contents → Type 0)
 if_told None P so = tt
 if_told (Some now) P so = so now refl
 
-module _ {H : Type 0} (moment : H → ℕ) (left_since : H → ℕ → Contents → Type 0)
-    (longer : (host : H) (t u : ℕ) (c : Contents) → t ≤ u → left_since host u c → left_since host t c) where
-  -- the start of a chain
-  pub come_from : (host : H) (P Q : Contents → Type 0)
-      → ((c : Contents) → Q c → P c) → EachLeft moment left_since host Q → HasCome moment left_since host host P Q
-  come_from host P Q within each = record {
-    only = record { later = omega arith; each = λ c left. within c (each c left); before = λ t c le left. inl left };
-    each = each;
-  }
+-- what a clause says of a host that tells this
+pub told_is : (told : Option Contents) (now : Contents) (P : Contents → Type 0)
+    → told ≡ Some now → IfSome told P → P now
+told_is told now P tells is = subst (λ o. IfSome o P) tells is
 
-  -- what each crash now leaves has P already
-  come_had : (old now : H) (P Q : Contents → Type 0)
-      → HasCome moment left_since old now P Q → EachLeft moment left_since now P
-  come_had old now P Q come c left =
-      come.only.each c (longer now (moment old) (moment now) c come.only.later left)
+-- Where all was said, a saying that said some of the bytes said all.
+pub said_whole : (bytes : List ℕ) (before c now : Contents)
+    → SaysSome bytes before c → before.said ≡ now.said → c.said ≡ now.said ++ bytes → c ≡ saying before bytes
+said_whole bytes before c now step same whole =
+    contents_agree c (saying before bytes) (ap (λ (x : Contents). x.db) step.1)
+    (ap (λ (x : Contents). x.images) step.1) (whole ∙ ap (λ (said : List ℕ). said ++ bytes) (sym same))
 
-  come_on : (old mid new : H) (P Q R then : Contents → Type 0)
-      → HasCome moment left_since old mid P Q
-      → Elapses (moment mid) (moment new) (left_since mid) (left_since new) then
-      → ((c : Contents) → then c → P c) → EachLeft moment left_since new R → HasCome moment left_since old new P R
-  come_on old mid new P Q R then come time within each = record {
-    only = then_more moment left_since old mid new P come.only
-        (one_call moment left_since mid new then P time (come_had old mid P Q come) within);
-    each = each;
-  }
+module _ {H : Type 0} (moment : H → ℕ) (left_since : H → ℕ → Contents → Type 0) where
+  -- a write, a cut or a saying
+  pub each_after : (step : Contents → Contents → Type 0) (Q : Contents → Type 0) (old new : H)
+      → EachLeft moment left_since old Q
+      → Follows step (left_since old (moment old)) (left_since new (moment new))
+      → EachLeft moment left_since new (during step Q)
+  each_after step Q old new each crash c left =
+      let before = crash c left in (before.0, each before.0 before.1, before.2)
 
-  -- a write or a cut
-  pub come_changed : (counts : H → Failures) (old mid new : H) (P Q R : Contents → Type 0)
-      (step : Contents → Contents → Type 0)
-      → HasCome moment left_since old mid P Q
-      → Follows step (left_since mid (moment mid)) (left_since new (moment new))
-      → WasCalled moment counts left_since mid new (left_since new (moment new))
-      → ((d c : Contents) → Q d → step d c → R c) → ((c : Contents) → R c → P c)
-      → HasCome moment left_since old new P R
-  come_changed counts old mid new P Q R step come crash called makes within =
-      let each : EachLeft moment left_since new R =
-      λ c left. let before = crash c left in makes before.0 c (come.each before.0 before.1) before.2 in
-      come_on old mid new P Q R (left_since new (moment new)) come called.time (λ c left. within c (each c left)) each
+  pub each_write : (file : FileNo) (at n : ℕ) (Q : Contents → Type 0) (old new : H)
+      → EachLeft moment left_since old Q
+      → Follows (Changes file (Torn at n)) (left_since old (moment old)) (left_since new (moment new))
+      → EachLeft moment left_since new (AfterWrite file at n Q)
+  each_write file at n Q old new each crash = each_after (Changes file (Torn at n)) Q old new each crash
 
-  -- a call that changed nothing
-  pub come_kept : (contents : H → Option Contents) (counts : H → Failures) (old mid new : H)
-      (P Q : Contents → Type 0)
-      → HasCome moment left_since old mid P Q → ChangedNothing contents moment counts left_since mid new
-      → HasCome moment left_since old new P Q
-  come_kept contents counts old mid new P Q come kept =
-      come_on old mid new P Q Q (left_since new (moment new)) come kept.called.time
-      (λ c left. come_had old mid P Q come c (kept.crash c left)) (λ c left. come.each c (kept.crash c left))
+  pub each_cut : (file : FileNo) (n : ℕ) (Q : Contents → Type 0) (old new : H)
+      → EachLeft moment left_since old Q
+      → Follows (Changes file (Cut n)) (left_since old (moment old)) (left_since new (moment new))
+      → EachLeft moment left_since new (AfterCut file n Q)
+  each_cut file n Q old new each crash = each_after (Changes file (Cut n)) Q old new each crash
 
-  -- a sync that succeeded
-  pub come_synced : (contents : H → Option Contents) (counts : H → Failures) (old mid new : H)
-      (P Q R : Contents → Type 0) (file : FileNo) (bytes : List ℕ)
-      → HasCome moment left_since old mid P Q → ChangedNothing contents moment counts left_since mid new
-      → Settles file bytes (left_since new (moment new))
-      → ((c : Contents) → Q c → file_of c file ≡ bytes → R c) → HasCome moment left_since old new P R
-  come_synced contents counts old mid new P Q R file bytes come kept settled makes =
-      let now = come_kept contents counts old mid new P Q come kept in
-      record { only = now.only; each = λ c left. makes c (now.each c left) (settled c left) }
+  pub each_saying : (bytes : List ℕ) (Q : Contents → Type 0) (old new : H)
+      → EachLeft moment left_since old Q
+      → Follows (SaysSome bytes) (left_since old (moment old)) (left_since new (moment new))
+      → EachLeft moment left_since new (AfterSaying bytes Q)
+  each_saying bytes Q old new each crash = each_after (SaysSome bytes) Q old new each crash
 
-  -- a saying, in which a crash leaves what was said before and some of the first bytes
-  pub come_said : (counts : H → Failures) (old mid new : H) (P Q R : Contents → Type 0) (bytes : List ℕ)
-      → HasCome moment left_since old mid P Q
-      → Follows (SaysSome bytes) (left_since mid (moment mid)) (left_since new (moment new))
-      → WasCalled moment counts left_since mid new (during (SaysSome bytes) (left_since mid (moment mid)))
-      → ((d c : Contents) → Q d → SaysSome bytes d c → R c) → ((c : Contents) → R c → P c)
-      → HasCome moment left_since old new P R
-  come_said counts old mid new P Q R bytes come crash called makes within =
-      come_on old mid new P Q R (during (SaysSome bytes) (left_since mid (moment mid))) come called.time
-      (λ c step. within c (makes step.0 c (come.each step.0 step.1) step.2))
-      (λ c left. let before = crash c left in makes before.0 c (come.each before.0 before.1) before.2)
+  -- a saying that succeeded
+  pub each_said : (bytes : List ℕ) (Q : Contents → Type 0) (old new : H) (now : Contents)
+      → EachLeft moment left_since old Q
+      → Follows (SaysSome bytes) (left_since old (moment old)) (left_since new (moment new))
+      → EachLeft moment left_since old (λ c. c.said ≡ now.said)
+      → EachLeft moment left_since new (λ c. c.said ≡ now.said ++ bytes)
+      → EachLeft moment left_since new (AfterSaid bytes Q)
+  each_said bytes Q old new now each crash old_said new_said c left =
+      let before = crash c left in (
+        before.0,
+        each before.0 before.1,
+        said_whole bytes before.0 c now before.2 (old_said before.0 before.1) (new_said c left),
+      )
 
-  -- one fact more of what each crash now leaves
-  pub come_and : (old now : H) (P Q S R : Contents → Type 0)
-      → HasCome moment left_since old now P Q → EachLeft moment left_since now S
-      → ((c : Contents) → Q c → S c → R c) → HasCome moment left_since old now P R
-  come_and old now P Q S R come also makes =
-      record { only = come.only; each = λ c left. makes c (come.each c left) (also c left) }
+  -- a call that changed nothing: a read, a length, a sync
+  pub each_kept : (Q : Contents → Type 0) (old new : H)
+      → EachLeft moment left_since old Q → Stays (left_since old (moment old)) (left_since new (moment new))
+      → EachLeft moment left_since new Q
+  each_kept Q old new each stays c left = each c (stays c left)
 
-  pub come_weaker : (old now : H) (P Q P' Q' : Contents → Type 0)
-      → ((c : Contents) → P c → P' c) → ((c : Contents) → Q c → Q' c)
-      → HasCome moment left_since old now P Q → HasCome moment left_since old now P' Q'
-  come_weaker old now P Q P' Q' so now_so come =
-      record { only = weaker moment left_since old now P P' so come.only; each = λ c left. now_so c (come.each c left) }
+  -- a sync that succeeded, over a host that tells
+  pub each_sync : (file : FileNo) (Q : Contents → Type 0) (old new : H) (told : Option Contents) (now : Contents)
+      → EachLeft moment left_since old Q → Stays (left_since old (moment old)) (left_since new (moment new))
+      → told ≡ Some now → IfSome told (λ c. Settles file (file_of c file) (left_since new (moment new)))
+      → EachLeft moment left_since new (AfterSync file (file_of now file) Q)
+  each_sync file Q old new told now each stays tells settled c left =
+      let P : Contents → Type 0 = λ x. Settles file (file_of x file) (left_since new (moment new)) in
+      (each c (stays c left), told_is told now P tells settled c left)
 
-  -- one chain after another
-  pub come_then : (old mid now : H) (P Q R : Contents → Type 0)
-      → HasCome moment left_since old mid P Q → HasCome moment left_since mid now P R
-      → HasCome moment left_since old now P R
-  come_then old mid now P Q R first second =
-      record { only = then_more moment left_since old mid now P first.only second.only; each = second.each }
+-- both files are stable, and all was said: a crash leaves what the host holds
+pub each_settled : (now : Contents) (left : Contents → Type 0)
+    → Settles Db now.db left → Settles Images now.images left → ((c : Contents) → left c → c.said ≡ now.said)
+    → (c : Contents) → left c → c ≡ now
+each_settled now left db images said c is = contents_agree c now (db c is) (images c is) (said c is)
+
+-- All was stable, one file was changed, and now it is stable again: a crash leaves that change and no other.
+pub is_changed : (file : FileNo) {R : List ℕ → List ℕ → Type 0} (bytes : List ℕ) (now c : Contents)
+    → during (Changes file R) (λ before. before ≡ now) c → file_of c file ≡ bytes → c ≡ with_file file bytes now
+is_changed file bytes now c step is = file_changed file bytes step.0 c step.2 is ∙ ap (with_file file bytes) step.1
+
+-- what a host tells after a write, a cut or a saying that succeeded
+pub told_written : (file : FileNo) (at : ℕ) (bytes : List ℕ) (old new : Option Contents) (now : Contents)
+    → old ≡ Some now → TellsOn old new (Changes file (λ old new. new ≡ written at bytes old))
+    → new ≡ Some (with_file file (written at bytes (file_of now file)) now)
+told_written file at bytes old new now tells told =
+    let after = TellsOn-some old new (Changes file (λ old new. new ≡ written at bytes old)) now tells told in
+    after.1 ∙ ap Some (file_changed file (written at bytes (file_of now file)) now after.0 after.2 after.2.changed)
+
+pub told_cut : (file : FileNo) (n : ℕ) (old new : Option Contents) (now : Contents)
+    → old ≡ Some now → TellsOn old new (Changes file (λ old new. new ≡ take n old))
+    → new ≡ Some (with_file file (take n (file_of now file)) now)
+told_cut file n old new now tells told =
+    let after = TellsOn-some old new (Changes file (λ old new. new ≡ take n old)) now tells told in
+    after.1 ∙ ap Some (file_changed file (take n (file_of now file)) now after.0 after.2 after.2.changed)
+
+pub told_said : (bytes : List ℕ) (old new : Option Contents) (now : Contents)
+    → old ≡ Some now → TellsOn old new (λ old new. new ≡ saying old bytes) → new ≡ Some (saying now bytes)
+told_said bytes old new now tells told =
+    let after = TellsOn-some old new (λ old new. new ≡ saying old bytes) now tells told in after.1 ∙ ap Some after.2
+
+-- what follows of a call's clause where the call succeeded
+pub when_ok : {T E P : Type 0} (F : Result T E → Type 0) (result : Result T E)
+    → F result → ((x : T) → F (Ok x) → P) → OnOk result P
+when_ok F (Ok x) is so = so x is
+when_ok F (Err e) is so = tt

@@ -1,8 +1,7 @@
 -- What a crash may leave of a file, step by step, and how upper layers speak of every moment.
 use Rattle.std.specs.Prelude.{◌≡◌, ◌⊎◌, ℕ, ◌+◌, ◌<◌, ◌≤◌, min, max, List, ◌++◌, length, take, drop, slice_index}
-use Rattle.std.specs.Prelude.{Option, Some, Result, MatchResult}
+use Rattle.std.specs.Prelude.{Result, MatchResult}
 use Rattle.host_model.specs.declared.host.FileNo.{FileNo}
-use Rattle.host_model.specs.declared.host.FileNo.TheVariants.{Db, Images}
 use Rattle.host_model.specs.Files.{Contents, file_of}
 
 -- the file with these bytes at a place

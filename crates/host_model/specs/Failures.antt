@@ -1,5 +1,5 @@
 -- Counts of failures: when one rose, and how a clause says that an error has a cause.
-use Rattle.std.specs.Prelude.{ℕ, ◌+◌, ◌-◌, ◌^◌, ◌≤◌, ◌≡◌, min}
+use Rattle.std.specs.Prelude.{ℕ, ◌+◌, ◌-◌, ◌^◌, ◌≤◌, min}
 
 -- A count stands still at the greatest number of 64 bits.
 abbrev pub counted : ℕ → ℕ

@@ -18,6 +18,11 @@ abbrev pub file_of : Contents → FileNo → List ℕ
 file_of c Db = c.db
 file_of c Images = c.images
 
+-- with other bytes in one file
+abbrev pub with_file : FileNo → List ℕ → Contents → Contents
+with_file Db bytes c = record c { db = bytes }
+with_file Images bytes c = record c { images = bytes }
+
 -- A read into a buffer gives as many bytes as the buffer takes and the file has from there, and they
 -- stand at the buffer's front.
 pub record Reads (file : List ℕ) (at : ℕ) (old new : List ℕ) (n : ℕ) : Type 0 where

@@ -3,5 +3,7 @@ pub mod Told
 pub mod Files
 pub mod Disk
 pub mod Moments
+pub mod Outcomes
+pub mod Order
 pub mod Units
 pub mod Frames

@@ -7,6 +7,6 @@ mod source;
 mod units;
 
 pub use host::{FileNo, Host, HostFailed};
-pub use order::{store, store_and_tell};
+pub use order::{barrier, store, store_and_tell};
 pub use source::{Source, SourceFailed};
 pub use units::{UnitSource, UnitTrouble};

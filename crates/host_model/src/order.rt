@@ -1,74 +1,73 @@
-ghost use Rattle.std.specs.Prelude.{◌≡◌, ◌≤◌, ◌++◌, None, length, IfSome, OnOk};
+ghost use Rattle.std.specs.Prelude.{◌≡◌, ◌≤◌, ◌+◌, None, Some, length, OnErr, OnOk};
 ghost use Rattle.std.specs.Option.{ForSome};
+ghost use Rattle.host_model.specs.Disk.{Changes, Settles, Torn, Writes, written};
+ghost use Rattle.host_model.specs.Failures.{NeverFell, Rose, counted};
+ghost use Rattle.host_model.specs.Files.{file_of, saying};
+ghost use Rattle.host_model.specs.Moments.{EachLeft, LeavesBy, LeavesOnly, LeavesTheSame};
+ghost use Rattle.host_model.specs.Order.{IsStoredInOrder, with_front};
 ghost use Rattle.host_model.specs.Told.{TellsOn};
-ghost use Rattle.host_model.specs.Disk.{Changes, Settles, Torn, written};
-ghost use Rattle.host_model.specs.Moments.{EachLeft, IsBeingStored, IsBeingTold, IsStoredThenTold, IsTold, LeavesOnly};
 
 use crate::{FileNo, Host, HostFailed};
 
-/// Writes into the database file and makes it stable.
+/// Makes both files stable.
 ///
-/// At any moment of the call a crash leaves the file with a torn write, and nothing more said. After Ok it leaves the
-/// whole write.
-pub fn store<H: Host>(host: &mut H, at: u64, bytes: &[u8]) -> Result<(), HostFailed>
-    requires fits { ForSome (H.told host.old) (λ c. at ≤ length c.db) }
-    requires stable { ForSome (H.told host.old)
-        (λ c. Settles FileNo.Db c.db (H.left_since host.old (H.moment host.old))) }
-    ensures any_moment { IfSome (H.told host.old) (λ c.
-        LeavesOnly H.moment H.left_since host.old host.new (IsBeingStored c at (length bytes.now))) }
-    ensures stored { OnOk result (TellsOn (H.told host.old) (H.told host.new)
-        (Changes FileNo.Db (λ old new. new ≡ written at bytes.now old))) }
-    ensures settled { OnOk result (IfSome (H.told host.old) (λ c.
-        Settles FileNo.Db (written at bytes.now c.db) (H.left_since host.new (H.moment host.new)))) }
-    ensures untold { H.told host.old ≡ None → H.told host.new ≡ None }
+/// After Ok a crash leaves exactly what the host holds. However it ends, no crash leaves anything that it couldn't
+/// leave before.
+pub fn barrier<H: Host>(host: &mut H) -> Result<(), HostFailed>
+    ensures stable { OnOk result (ForSome (H.told host.old)
+        (λ now. EachLeft H.moment H.left_since host.new (λ c. c ≡ now))) }
+    ensures told { H.told host.new ≡ H.told host.old }
+    ensures same { LeavesTheSame H.moment H.left_since host.old host.new }
+    // Both syncs were called.
+    ensures clock { OnOk result (H.moment host.new ≡ counted (counted (H.moment host.old))) }
+    ensures calls { H.moment host.new ≤ H.moment host.old + 2 }
+    ensures failures { NeverFell (H.failures host.old) (H.failures host.new) }
+    ensures failed { OnErr result (Rose (H.failures host.old).write (H.failures host.new).write) }
 {
-    host.write_at(FileNo::Db, at, bytes)?;
+    host.sync(FileNo::Images)?;
     host.sync(FileNo::Db)
 }
 
-/// Stores `first` at the front of the database file, writes `second` behind it, and then says `done`.
+/// Writes into a file and makes it stable.
 ///
-/// At any moment a crash leaves a torn first write and nothing said, or the whole of it with a torn second one. So who
-/// reads any of `done` can rely on `first`. After Ok both are written and all of `done` is said, and a crash leaves
-/// `first` whole and all that was said.
+/// At any moment a crash leaves what it could have left before, with a torn write. After Ok it leaves the whole write.
+pub fn store<H: Host>(host: &mut H, file: FileNo, at: u64, bytes: &[u8]) -> Result<(), HostFailed>
+    requires { ForSome (H.told host.old) (λ now. at ≤ length (file_of now file)) }
+    ensures any_moment { LeavesBy H.moment H.left_since (Changes file (Torn at (length bytes.now))) host.old host.new }
+    ensures told { TellsOn (H.told host.old) (H.told host.new) (Changes file (Writes at bytes.now result)) }
+    ensures untold { H.told host.old ≡ None → H.told host.new ≡ None }
+    ensures settled { OnOk result (ForSome (H.told host.old) (λ now. Settles file
+        (written at bytes.now (file_of now file)) (H.left_since host.new (H.moment host.new)))) }
+    ensures calls { H.moment host.new ≤ H.moment host.old + 2 }
+    ensures failures { NeverFell (H.failures host.old) (H.failures host.new) }
+    ensures failed { OnErr result (Rose (H.failures host.old).write (H.failures host.new).write) }
+{
+    host.write_at(file, at, bytes)?;
+    host.sync(file)
+}
+
+/// Stores `first` at the front of the file of images, then `second` at the front of the database file, and then says
+/// `done`.
+///
+/// At any moment a crash leaves a torn first write and nothing else; or the whole of it and a torn second one; or the
+/// whole of both, and some of `done` said. So who reads any of `done` can rely on both, and who finds any of `second`
+/// on `first`. After Ok a crash leaves all of it.
 pub fn store_and_tell<H: Host>(
     host: &mut H,
     first: &[u8],
     second: &[u8],
     done: &[u8],
 ) -> Result<(), HostFailed>
-    requires { ForSome (H.told host.old)
-        (λ c. Settles FileNo.Db c.db (H.left_since host.old (H.moment host.old))) }
-    ensures any_moment { IfSome (H.told host.old) (λ c. LeavesOnly H.moment H.left_since host.old host.new
-        (IsStoredThenTold c first.now (length second.now) done.now)) }
-    ensures done { OnOk result (TellsOn (H.told host.old) (H.told host.new) (λ old new. new ≡ record old {
-      db = written (length first.now) second.now (written 0 first.now old.db);
-      said = old.said ++ done.now;
-    })) }
-    ensures settled { OnOk result (IfSome (H.told host.old) (λ c. EachLeft H.moment H.left_since host.new
-        (IsTold (record c { db = written 0 first.now c.db }) (length first.now) (length second.now) done.now))) }
+    requires { ForSome (H.told host.old) (λ now. EachLeft H.moment H.left_since host.old (λ c. c ≡ now)) }
+    ensures any_moment { ForSome (H.told host.old) (λ now. LeavesOnly H.moment H.left_since host.old host.new
+        (IsStoredInOrder now first.now second.now done.now)) }
+    ensures told { OnOk result (ForSome (H.told host.old) (λ now.
+        H.told host.new ≡ Some (saying (with_front FileNo.Db second.now (with_front FileNo.Images first.now now))
+        done.now))) }
+    ensures stable { OnOk result (ForSome (H.told host.old) (λ now. EachLeft H.moment H.left_since host.new (λ c.
+        c ≡ saying (with_front FileNo.Db second.now (with_front FileNo.Images first.now now)) done.now))) }
 {
-    store(host, 0, first)?;
-    write_and_say(host, first.len() as u64, second, done)
-}
-
-/// Writes into a stable database file, and says something.
-fn write_and_say<H: Host>(
-    host: &mut H,
-    at: u64,
-    bytes: &[u8],
-    done: &[u8],
-) -> Result<(), HostFailed>
-    requires fits { ForSome (H.told host.old) (λ c. at ≤ length c.db) }
-    requires stable { ForSome (H.told host.old)
-        (λ c. Settles FileNo.Db c.db (H.left_since host.old (H.moment host.old))) }
-    ensures any_moment { IfSome (H.told host.old) (λ c. LeavesOnly H.moment H.left_since host.old host.new
-        (IsBeingTold c at (length bytes.now) done.now)) }
-    ensures done { OnOk result (TellsOn (H.told host.old) (H.told host.new) (λ old new.
-        new ≡ record old { db = written at bytes.now old.db; said = old.said ++ done.now })) }
-    ensures left { OnOk result (IfSome (H.told host.old) (λ c. EachLeft H.moment H.left_since host.new
-        (IsTold c at (length bytes.now) done.now))) }
-{
-    host.write_at(FileNo::Db, at, bytes)?;
+    store(host, FileNo::Images, 0, first)?;
+    store(host, FileNo::Db, 0, second)?;
     host.say(done)
 }
