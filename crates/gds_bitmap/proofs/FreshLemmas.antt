@@ -1,10 +1,12 @@
 -- A map that is made: its states after the zeros, and after each block that becomes new.
-use Rattle.std.proofs.Common.{ℕ, ◌≡◌, ◌≢◌, ◌+◌, ◌-◌, ◌/◌, ◌≤◌, ◌<◌, List, refl, sym, ◌∙◌, ap, min, ◌++◌, replicate, length, take, drop, get_or, inl, inr, arith, ltb, length-take, length-drop}
+use Rattle.std.proofs.Common.{ℕ, ◌≡◌, ◌≢◌, ◌+◌, ◌-◌, ◌/◌, ◌≤◌, ◌<◌, List, refl, sym, ◌∙◌, ap, min, ◌++◌, replicate}
+use Rattle.std.proofs.Common.{length, take, drop, get_or, inl, inr, arith, ltb, length-take, length-drop}
 use Rattle.std.specs.Prelude.{slice_index}
 use Rattle.std.proofs.Math.Nat.{zero-div}
 use Rattle.std.proofs.lemmas.Bool.{cases_eq, le-ltb, lt-ltb, ne_eqb}
 use Rattle.std.proofs.lemmas.Bool.Decides.{nat_tests}
-use Rattle.std.proofs.lemmas.List.{ext_get_or, get_or-take, get_or-drop, get_or-append_right, get_or_append_left, get_or-replicate, length-replicate}
+use Rattle.std.proofs.lemmas.List.{ext_get_or, get_or-take, get_or-drop, get_or-append_right, get_or_append_left}
+use Rattle.std.proofs.lemmas.List.{get_or-replicate, length-replicate}
 use Rattle.gds_bitmap.specs.declared.state.State.TheVariants.{Busy, New}
 use Rattle.gds_bitmap.specs.declared.state.State.{State}
 use Rattle.gds_bitmap.specs.Bitmap.{state_at, fresh_state, Marks}
@@ -42,14 +44,17 @@ module _ (old new : List ℕ) (k : ℕ) (state : State) (marks : Marks old new k
       get_or-drop 144 new i 0 ∙ marks.bytes (144 + i) other ∙ sym (get_or-drop 144 old i 0))
 
 -- one more block becomes new
-pub states-more : (old new : List ℕ) (k : ℕ) → 0 < k → Marks old new k New → ((j : ℕ) → j < 512 → state_at old j ≡ fresh_state k j) → (j : ℕ) → j < 512 → state_at new j ≡ fresh_state (k + 1) j
+pub states-more : (old new : List ℕ) (k : ℕ) → 0 < k → Marks old new k New
+    → ((j : ℕ) → j < 512 → state_at old j ≡ fresh_state k j) → (j : ℕ) → j < 512
+    → state_at new j ≡ fresh_state (k + 1) j
 states-more old new k h marks states j within = elim (cases_eq j k) [
   | inl same ↦ rw same (marks.marked ∙ sym (fresh_state-new (k + 1) k h (omega arith)))
   | inr other ↦ marks.others j other ∙ states j within ∙ sym (fresh_state-other k j other)
 ]
 
 -- the bytes behind the head after 128 zeros were put there
-pub zero_at : (front mid rest : List ℕ) (n i : ℕ) → length front ≡ 16 → mid ≡ replicate n 0 → i < n → get_or (front ++ (mid ++ rest)) (16 + i) 0 ≡ 0
+pub zero_at : (front mid rest : List ℕ) (n i : ℕ) → length front ≡ 16 → mid ≡ replicate n 0 → i < n
+    → get_or (front ++ (mid ++ rest)) (16 + i) 0 ≡ 0
 zero_at front mid rest n i h e l =
     let place : 16 + i - 16 ≡ i = omega arith in
     let here : i < length mid = omega (arith, ap length e, length-replicate {A = ℕ} n 0) in

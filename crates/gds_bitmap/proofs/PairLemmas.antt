@@ -7,10 +7,10 @@ use Rattle.std.proofs.lemmas.Bool.{agree_below, agree_below_at, eqb-true, eq-eqb
 use Rattle.gds_bitmap.specs.Pairs.{pair_in, is_free_in, count_below, NoneFreeIn, IsFirstFreeIn}
 
 -- a test passes at each number below n
-abbrev passes_below : (ℕ → Bool) → ℕ → Bool
+abbrev pub passes_below : (ℕ → Bool) → ℕ → Bool
 passes_below test n = agree_below test (λ _. true) n
 
-passes_at : (test : ℕ → Bool) (n k : ℕ) → passes_below test n ≡ true → k < n → test k ≡ true
+pub passes_at : (test : ℕ → Bool) (n k : ℕ) → passes_below test n ≡ true → k < n → test k ≡ true
 passes_at test n k h l = agree_below_at test (λ _. true) n k h l
 
 -- ---- the free pairs among the first ones, counted by their low bits
@@ -25,9 +25,12 @@ all_counts : passes_below (λ pairs. passes_below (counts pairs) 256) 5 ≡ true
 unfolding counts low_ones ones
 all_counts = refl
 
-pub count_of_low_ones : (byte pairs : ℕ) → byte < 256 → pairs < 5 → ones (bit_and byte (85 / 2 ^ (8 - 2 * pairs))) ≡ count_below (is_free_in byte) pairs
+pub count_of_low_ones : (byte pairs : ℕ) → byte < 256 → pairs < 5
+    → ones (bit_and byte (85 / 2 ^ (8 - 2 * pairs))) ≡ count_below (is_free_in byte) pairs
 unfolding counts low_ones
-count_of_low_ones byte pairs h l = eqb-true _ _ (passes_at (counts pairs) 256 byte (passes_at (λ n. passes_below (counts n) 256) 5 pairs all_counts l) h)
+count_of_low_ones byte pairs h l =
+    eqb-true _ _ (passes_at (counts pairs) 256 byte (passes_at (λ n. passes_below (counts n) 256) 5 pairs all_counts l)
+    h)
 
 -- ---- a pair replaced
 
@@ -37,14 +40,18 @@ replaced place pair byte = bit_or (bit_and byte (255 - 3 * 2 ^ (2 * place) % 256
 pair_is : ℕ → ℕ → ℕ → ℕ → Bool
 pair_is place pair byte j = eqb (pair_in (replaced place pair byte) j) (if eqb j place then pair else pair_in byte j)
 
-all_replaced : passes_below (λ place. passes_below (λ pair. passes_below (λ byte. passes_below (pair_is place pair byte) 4) 256) 4) 4 ≡ true
+all_replaced : passes_below (λ place. passes_below
+    (λ pair. passes_below (λ byte. passes_below (pair_is place pair byte) 4) 256) 4) 4 ≡ true
 unfolding pair_is replaced
 all_replaced = refl
 
-pub pair_in-replaced : (place pair byte j : ℕ) → place < 4 → pair < 4 → byte < 256 → j < 4 → pair_in (bit_or (bit_and byte (255 - 3 * 2 ^ (2 * place) % 256)) (pair * 2 ^ (2 * place) % 256)) j ≡ (if eqb j place then pair else pair_in byte j)
+pub pair_in-replaced : (place pair byte j : ℕ) → place < 4 → pair < 4 → byte < 256 → j < 4
+    → pair_in (bit_or (bit_and byte (255 - 3 * 2 ^ (2 * place) % 256)) (pair * 2 ^ (2 * place) % 256)) j
+    ≡ (if eqb j place then pair else pair_in byte j)
 unfolding pair_is replaced
 pair_in-replaced place pair byte j in_byte in_pair fits in_four =
-    let at_place = passes_at (λ n. passes_below (λ p. passes_below (λ b. passes_below (pair_is n p b) 4) 256) 4) 4 place all_replaced in_byte in
+    let at_place = passes_at (λ n. passes_below (λ p. passes_below (λ b. passes_below (pair_is n p b) 4) 256) 4) 4 place
+    all_replaced in_byte in
     let at_pair = passes_at (λ p. passes_below (λ b. passes_below (pair_is place p b) 4) 256) 4 pair at_place in_pair in
     let at_byte = passes_at (λ b. passes_below (pair_is place pair b) 4) 256 byte at_pair fits in
     eqb-true _ _ (passes_at (pair_is place pair byte) 4 j at_byte in_four)
@@ -81,13 +88,17 @@ lowest : ℕ → ℕ
 lowest byte = count_trailing_zeros 8 (bit_and byte 85) / 2
 
 lowest_is_first : ℕ → Bool
-lowest_is_first byte = if eqb (bit_and byte 85) 0 then true else (ltb (lowest byte) 4 && (is_free_in byte (lowest byte) && passes_below (λ i. not (ltb i (lowest byte) && is_free_in byte i)) 4))
+lowest_is_first byte =
+    if eqb (bit_and byte 85) 0 then true else
+    (ltb (lowest byte) 4 && (is_free_in byte (lowest byte) && passes_below
+    (λ i. not (ltb i (lowest byte) && is_free_in byte i)) 4))
 
 all_lowest : passes_below lowest_is_first 256 ≡ true
 unfolding lowest_is_first lowest count_trailing_zeros
 all_lowest = refl
 
-pub IsFirstFreeIn-lowest : (byte : ℕ) → byte < 256 → (bit_and byte 85 ≡ 0 → ⊥) → IsFirstFreeIn byte (count_trailing_zeros 8 (bit_and byte 85) / 2)
+pub IsFirstFreeIn-lowest : (byte : ℕ) → byte < 256 → (bit_and byte 85 ≡ 0 → ⊥)
+    → IsFirstFreeIn byte (count_trailing_zeros 8 (bit_and byte 85) / 2)
 unfolding lowest_is_first lowest
 IsFirstFreeIn-lowest byte fits some =
     let table = if_false _ _ (passes_at lowest_is_first 256 byte all_lowest fits) (ne_eqb _ _ some) in
@@ -97,5 +108,8 @@ IsFirstFreeIn-lowest byte fits some =
     record {
       within = below;
       free = more.0;
-      first = λ j h free. not_both (ltb j (lowest byte)) (is_free_in byte j) (passes_at (λ i. not (ltb i (lowest byte) && is_free_in byte i)) 4 j more.1 (omega arith)) (lt-ltb _ _ h) free;
+      first =
+          λ j h free. not_both (ltb j (lowest byte)) (is_free_in byte j)
+          (passes_at (λ i. not (ltb i (lowest byte) && is_free_in byte i)) 4 j more.1 (omega arith)) (lt-ltb _ _ h)
+          free;
     }

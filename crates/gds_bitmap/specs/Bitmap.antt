@@ -1,5 +1,6 @@
 -- A local bitmap, over the list of its block's bytes.
-use Rattle.std.specs.Prelude.{ℕ, ◌≡◌, ◌≢◌, ◌+◌, ◌/◌, ◌%◌, ◌<◌, Bool, IsTrue, ◌==◌, ◌&&◌, not, nat_lt, if◌then◌else◌, List, length, slice_index, take, drop}
+use Rattle.std.specs.Prelude.{ℕ, ◌≡◌, ◌≢◌, ◌+◌, ◌/◌, ◌%◌, ◌<◌, Bool, IsTrue, ◌==◌, ◌&&◌, not, nat_lt, if◌then◌else◌}
+use Rattle.std.specs.Prelude.{List, length, slice_index, take, drop}
 use Rattle.gds_block.specs.Block.{head_bytes}
 use Rattle.gds_bitmap.specs.declared.state.State.{State}
 use Rattle.gds_bitmap.specs.declared.state.State.TheVariants.{Busy, New}

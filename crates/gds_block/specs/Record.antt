@@ -1,5 +1,6 @@
 -- The records of a block. The bytes left from an offset on are those up to the used count.
-use Rattle.std.specs.Prelude.{ℕ, suc, zero, ◌≡◌, ◌≤◌, ◌+◌, Bool, ◌&&◌, ◌==◌, nat_le, IsTrue, if◌then◌else◌, List, [], ◌∷◌, ◌++◌, length, take, drop, slice_range}
+use Rattle.std.specs.Prelude.{ℕ, suc, zero, ◌≡◌, ◌≤◌, ◌+◌, Bool, ◌&&◌, ◌==◌, nat_le, IsTrue, if◌then◌else◌, List, []}
+use Rattle.std.specs.Prelude.{◌∷◌, ◌++◌, length, take, drop, slice_range}
 use Rattle.gds_block.specs.Fields.{u16_at}
 use Rattle.gds_block.specs.Block.{level_of, used_of}
 
@@ -28,7 +29,8 @@ least_size level = if level == 0 then 5 else 8
 -- The bytes left begin with a well-sized record: its head is there, its size is no less than the least,
 -- and it ends within them.
 abbrev pub is_well_sized : ℕ → List ℕ → Bool
-is_well_sized level left = nat_le 4 (length left) && nat_le (least_size level) (size_of left) && nat_le (size_of left) (length left)
+is_well_sized level left =
+    nat_le 4 (length left) && nat_le (least_size level) (size_of left) && nat_le (size_of left) (length left)
 
 -- the record at the front of the bytes left, which stands at this offset
 abbrev pub first_record : ℕ → List ℕ → Record

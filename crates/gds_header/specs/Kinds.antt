@@ -1,12 +1,16 @@
 -- What can be wrong with a header, kind by kind, and the list of what is wrong.
-use Rattle.std.specs.Prelude.{◌≡◌, ◌≤◌, Some, None, take, ℕ, ◌+◌, ◌-◌, ◌*◌, ◌/◌, ◌%◌, ◌^◌, Bool, true, false, not, ◌&&◌, ◌||◌, ◌==◌, nat_eq, nat_lt, nat_le, if◌then◌else◌, List, [], ◌∷◌, ◌++◌, length, Option, filter, find, codes, slice_index, slice_range}
+use Rattle.std.specs.Prelude.{◌≡◌, ◌≤◌, Some, None, take, ℕ, ◌+◌, ◌-◌, ◌*◌, ◌/◌, ◌%◌, ◌^◌, Bool, true, false, not, ◌&&◌}
+use Rattle.std.specs.Prelude.{◌||◌, ◌==◌, nat_eq, nat_lt, nat_le, if◌then◌else◌, List, [], ◌∷◌, ◌++◌, length, Option}
+use Rattle.std.specs.Prelude.{filter, find, codes, slice_index, slice_range}
 use Rattle.std.specs.List.{starts_with, list_any, range_with_len}
 use Rattle.std.specs.Int.{bit_at}
 use Rattle.std.specs.Option.{option_or}
 use Rattle.gds_header.specs.Fields.{label, fields_of, image_length}
 use Rattle.gds_header.specs.declared.header.Header.{Header}
 use Rattle.gds_header.specs.declared.kind.HeaderKind.{HeaderKind}
-use Rattle.gds_header.specs.declared.kind.HeaderKind.TheVariants.{ShortHeader, NotDatabase, BlockSizeNotMultiple, BlockSizeTooLarge, NoBlocks, BadLimit, ShortFile, LongFile, ReservedByte, BadTransactionNumber}
+use Rattle.gds_header.specs.declared.kind.HeaderKind.TheVariants.{ShortHeader, NotDatabase, BlockSizeNotMultiple}
+use Rattle.gds_header.specs.declared.kind.HeaderKind.TheVariants.{BlockSizeTooLarge, NoBlocks, BadLimit, ShortFile}
+use Rattle.gds_header.specs.declared.kind.HeaderKind.TheVariants.{LongFile, ReservedByte, BadTransactionNumber}
 use Rattle.gds_header.specs.declared.kind.HeaderFault.{HeaderFault}
 use Rattle.gds_header.specs.declared.kind.HeaderFault.TheVariants.{NotDb, NotMultiple, TooLarge, NoTotal, Limit}
 
@@ -81,7 +85,9 @@ holds image NoBlocks = (fields_of image).total == 0
 holds image BadLimit = not (keeps_limits (fields_of image))
 holds image ShortFile = nat_lt (length image) (image_length image)
 holds image LongFile = nat_lt (image_length image) (length image)
-holds image ReservedByte = let h = fields_of image in list_any (λ b. not (b == 0)) (reserved_bytes image) || list_any (has_free h) (groups_past h)
+holds image ReservedByte =
+    let h = fields_of image in
+    list_any (λ b. not (b == 0)) (reserved_bytes image) || list_any (has_free h) (groups_past h)
 holds image BadTransactionNumber = let h = fields_of image in h.tn == 0 || nat_lt (2 ^ 63) h.tn
 
 -- behind the kind no further one is asked
@@ -118,7 +124,8 @@ kind_of NoTotal = NoBlocks
 kind_of Limit = BadLimit
 
 unfoldable pub unreadable : List ℕ → Option HeaderKind
-unreadable image = find (holds image) (NotDatabase ∷ BlockSizeNotMultiple ∷ BlockSizeTooLarge ∷ NoBlocks ∷ BadLimit ∷ [])
+unreadable image =
+    find (holds image) (NotDatabase ∷ BlockSizeNotMultiple ∷ BlockSizeTooLarge ∷ NoBlocks ∷ BadLimit ∷ [])
 
 -- the kind that ends the reading, from the file's length and its first 8,192 bytes alone
 abbrev pub ending_kind_of : ℕ → List ℕ → Option HeaderKind

@@ -1,7 +1,9 @@
-ghost use Rattle.std.specs.Prelude.{◌≡◌, ◌≢◌, ℕ, ◌+◌, ◌<◌, ◌≤◌, List, ◌++◌, length, take, drop, IfOk, IfErr, Some, None, option_map, nat_lt, if◌then◌else◌};
+ghost use Rattle.std.specs.Prelude.{◌≡◌, ◌≢◌, ℕ, ◌+◌, ◌<◌, ◌≤◌, List, ◌++◌, length, take, drop, IfOk, IfErr, Some};
+ghost use Rattle.std.specs.Prelude.{None, option_map, nat_lt, if◌then◌else◌};
 ghost use Rattle.gds_header.specs.Fields.{fields_of, file_length_of, header_bytes};
 ghost use Rattle.std.specs.Int.{bit_at};
-ghost use Rattle.gds_header.specs.Kinds.{kind_of, keeps_block_limits, keeps_record_limits, IsWithinLimits, EachFileEnds, unreadable, has_free};
+ghost use Rattle.gds_header.specs.Kinds.{kind_of, keeps_block_limits, keeps_record_limits, IsWithinLimits};
+ghost use Rattle.gds_header.specs.Kinds.{EachFileEnds, unreadable, has_free};
 ghost use Rattle.gds_header.specs.declared.kind.HeaderKind.TheVariants.{ShortFile};
 
 use super::kind::HeaderFault;

@@ -1,21 +1,19 @@
 -- A key has no fault of its name and its subscripts exactly where it is a node's.
-use Rattle.std.proofs.Common.{◌≡◌, ℕ, zero, suc, ◌+◌, ◌-◌, ◌<◌, ◌≤◌, Bool, true, false, cond, List, [], ◌∷◌, ◌++◌}
-use Rattle.std.proofs.Common.{length, take, drop, map, refl, sym, ap, subst, ◌∙◌, ap₂, ◌⊎◌, inl, inr, ◌↔◌, arith}
-use Rattle.std.proofs.Common.{append_assoc, one-add, flat_map, length-append, Option, None, Some}
-use Rattle.std.specs.Prelude.{All, slice_index, ◌==◌, ◌&&◌, ◌||◌, not, nat_lt, nat_le, option_map}
-use Rattle.std.specs.List.{AllByRecursion, slice_split, onto_first, join_with_byte, prefix_len}
+use Rattle.std.proofs.Common.{◌≡◌, ℕ, zero, suc, ◌<◌, ◌≤◌, Bool, true, false, cond, List, [], ◌∷◌, ◌++◌}
+use Rattle.std.proofs.Common.{length, map, refl, sym, ap, subst, ◌∙◌, ◌⊎◌, inl, inr, ◌↔◌, arith}
+use Rattle.std.proofs.Common.{flat_map, Option, None, Some}
+use Rattle.std.specs.Prelude.{All, slice_index, ◌==◌, not, nat_lt}
+use Rattle.std.specs.List.{AllByRecursion, join_with_byte}
 use Rattle.std.specs.Option.{option_or}
-use Rattle.std.proofs.lemmas.Bool.{cases_Bool, cases_lt, and_parts, and_from, or_cases, cond-true, cond-false, ltb-true}
-use Rattle.std.proofs.lemmas.Bool.{lt-ltb, le-ltb, eqb-true, ne_eqb, false≢true, le-leb, leb-true, false_from_ne_true}
-use Rattle.std.proofs.lemmas.Bool.Decides.{nat_tests}
-use Rattle.std.proofs.lemmas.List.{take_at, length-map}
+use Rattle.std.proofs.lemmas.Bool.{cases_Bool, cases_lt, cond-true, cond-false}
+use Rattle.std.proofs.lemmas.Bool.{lt-ltb, le-ltb, eqb-true, ne_eqb, false≢true, false_from_ne_true}
+use Rattle.std.proofs.lemmas.List.{length-map}
 use Rattle.std.proofs.lemmas.List.Elements.{recursion_from_All, All-from_recursion}
-use Rattle.std.proofs.lemmas.List.Splits.{slice_split-cons_no, join_with_byte-slice_split}
-use Rattle.std.proofs.lemmas.List.Sums.{take_while-cons}
+use Rattle.std.proofs.lemmas.List.Splits.{join_with_byte-slice_split}
 use Rattle.m_number.specs.Bytes.{bytes_of}
 use Rattle.m_number.proofs.BytesLemmas.{byte_count, first_bound}
-use Rattle.m_key.specs.Node.{Node, NodeSubscript, number, string, is_word, IsName, IsSubscript, IsNode}
-use Rattle.m_key.specs.Key.{escaped, subscript_bytes, ended, key_bytes}
+use Rattle.m_key.specs.Node.{Node, NodeSubscript, number, string, IsSubscript, IsNode}
+use Rattle.m_key.specs.Key.{escaped, subscript_bytes, key_bytes}
 use Rattle.m_key.proofs.ZeroLemmas.{NoZero}
 use Rattle.m_key.proofs.KeyLemmas as keys
 use Rattle.m_key.proofs.KeyLemmas.{Right}

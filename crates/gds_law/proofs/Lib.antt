@@ -7,3 +7,4 @@ pub mod KeptLemmas
 pub mod NumberLemmas
 pub mod KeyLemmas
 pub mod SinkLemmas
+pub mod UnitLemmas

@@ -47,6 +47,11 @@ in_map f [] x i = absurd i
 in_map f (y ∷ ys) x (inl e) = inl (ap f e)
 in_map f (y ∷ ys) x (inr i) = inr (in_map f ys x i)
 
+pub in_map_from : {A B : Type 0} (f : A → B) (xs : List A) (y : B) → IsIn (map f xs) y → (x : A) × IsIn xs x × (f x ≡ y)
+in_map_from f [] y i = absurd i
+in_map_from f (x ∷ xs) y (inl e) = (x, inl refl, e)
+in_map_from f (x ∷ xs) y (inr i) = let r = in_map_from f xs y i in (r.0, inr r.1, r.2)
+
 pub in_flat_map : {A B : Type 0} (f : A → List B) (xs : List A) (x : A) (y : B) → IsIn xs x → IsIn (f x) y
     → IsIn (flat_map f xs) y
 in_flat_map f [] x y i j = absurd i

@@ -26,9 +26,6 @@ use Rattle.gds_law.specs.Number.{packed_digits, is_number_bytes}
 
 -- ---- which numbers have some digits
 
-some_digits : (d : ℕ) (ds : List ℕ) → eqb (length (d ∷ ds)) 0 ≡ false
-some_digits d ds = ne_eqb (length (d ∷ ds)) 0 (λ e. omega arith)
-
 below_ten : (ds : List ℕ) → Decimal ds → list_all (λ d. nat_lt d 10) ds ≡ true
 below_ten [] h = refl
 below_ten (d ∷ ds) h = and_from (nat_lt d 10) _ (lt-ltb d 10 h.0) (below_ten ds h.1)

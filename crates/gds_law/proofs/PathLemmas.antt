@@ -1,12 +1,12 @@
 -- The order of paths, and a list of all that lead somewhere.
 use Rattle.std.proofs.Common.{◌≡◌, ℕ, zero, suc, ◌+◌, ◌-◌, ◌<◌, ◌≤◌, ◌==◌, Bool, true, false, if◌then◌else◌, List, []}
 use Rattle.std.proofs.Common.{◌∷◌, map, flat_map, find, take, length, Option, None, Some, option_map, option_and_then}
-use Rattle.std.proofs.Common.{Ordering, Less, Equal, Greater, nat_cmp, inl, inr, refl, sym, ap, subst, ◌∙◌, arith}
+use Rattle.std.proofs.Common.{Less, nat_cmp, inl, inr, refl, sym, ap, subst, ◌∙◌, arith}
 use Rattle.std.specs.Cmp.{IsTotalOrder}
 use Rattle.std.specs.FinMap.{IsAntisymmetric, slice_cmp-IsAntisymmetric, nat_cmp-IsAntisymmetric}
-use Rattle.std.specs.Ordering.{ordering_then}
 use Rattle.std.proofs.lemmas.Bool.{eqb-true}
 use Rattle.std.proofs.lemmas.Cmp.{lists_total, then_total, on_total, nat_cmp_total, tied_itself}
+use Rattle.m_number.proofs.OrderingLemmas.{then_equal}
 use Rattle.gds_header.specs.Fields.{fields_of, block_of}
 use Rattle.gds_law.specs.Visit.{Visit, Child, directory_root}
 use Rattle.gds_law.specs.Path.{Steps, children_at, child_at, visit_from, visit_at, step_cmp, path_cmp, front_of}
@@ -20,14 +20,14 @@ step_total = then_total (on_total (λ (p : ℕ × ℕ). p.1) nat_cmp_total) (on_
 pub path_total : IsTotalOrder path_cmp
 path_total = lists_total step_total
 
-both_equal : (p q : Ordering) → ordering_then p q ≡ Equal → (p ≡ Equal) × (q ≡ Equal)
-both_equal Less q h = absurd (cc)
-both_equal Equal q h = (refl, h)
-both_equal Greater q h = absurd (cc)
+-- no path comes before the empty one
+pub not_below_nil : (p : Steps) → path_cmp p [] ≡ Less → ⊥
+not_below_nil [] h = cc
+not_below_nil (s ∷ p) h = cc
 
 step_exact : IsAntisymmetric step_cmp
 step_exact a b e =
-    let k = both_equal (nat_cmp a.1 b.1) (nat_cmp a.0 b.0) e in
+    let k = then_equal (nat_cmp a.1 b.1) (nat_cmp a.0 b.0) e in
     λ i. (nat_cmp-IsAntisymmetric a.0 b.0 k.1 i, nat_cmp-IsAntisymmetric a.1 b.1 k.0 i)
 
 pub path_exact : IsAntisymmetric path_cmp

@@ -1,5 +1,5 @@
 -- Each child's rank is smaller than its block's.
-use Rattle.std.proofs.Common.{◌≡◌, ℕ, ◌+◌, ◌-◌, ◌<◌, ◌==◌, Bool, true, false, not, ◌&&◌, ◌||◌, if◌then◌else◌, List, []}
+use Rattle.std.proofs.Common.{◌≡◌, ℕ, ◌-◌, ◌<◌, ◌==◌, Bool, true, false, not, ◌&&◌, ◌||◌, if◌then◌else◌, List, []}
 use Rattle.std.proofs.Common.{◌∷◌, ◌++◌, filter, Option, None, Some, inl, inr, refl, sym, ap, subst, ◌∙◌, arith}
 use Rattle.std.specs.List.{list_any}
 use Rattle.std.proofs.lemmas.Bool.{not-false, ltb-false, eqb-true, eqb-false, le-ltb, and_left, or_parts, cond_both}
@@ -89,7 +89,8 @@ children_fall b previous (r ∷ rs) c right i =
     ]
 
 -- No kind that is there among the told ones ends the reading: none of the asked ones that would is there.
-pub through_any : {A : Type 0} (test : A → Bool) (xs : List A) → list_any test (through_first test xs) ≡ list_any test xs
+pub through_any : {A : Type 0} (test : A → Bool) (xs : List A)
+    → list_any test (through_first test xs) ≡ list_any test xs
 through_any test [] = refl
 through_any {A} test (x ∷ xs) = by (test x) refl (through_any test xs)
   where
@@ -118,7 +119,7 @@ right_level b bytes kinds i h =
     none_there ends (head_holds b bytes) kinds WrongLevel (sym (through_any ends (filter (head_holds b bytes) kinds))
     ∙ h) refl i
 
-is_asked : IsIn head_kinds WrongLevel
+pub is_asked : IsIn head_kinds WrongLevel
 is_asked = inr (inr (inr (inr (inr (inl refl)))))
 
 head_right : (b : BlockReading) (bytes : List ℕ) → list_any ends (kinds_of_head b bytes) ≡ false

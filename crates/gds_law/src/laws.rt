@@ -1,12 +1,20 @@
-ghost use Rattle.std.specs.Prelude.{◌≡◌, ◌<◌, ◌↔◌, ℕ, List, length, All, IsTrue};
+ghost use Rattle.std.specs.Prelude.{◌≡◌, ◌<◌, ◌+◌, ◌↔◌, ℕ, List, length, All, IsTrue};
+ghost use Rattle.host_model.specs.Units.{block_length, unit_bytes};
 ghost use Rattle.m_number.specs.Numeral.{Numeral, IsNumeral};
 ghost use Rattle.m_number.specs.Text.{text_of};
 ghost use Rattle.m_number.specs.Bytes.{bytes_of};
 ghost use Rattle.m_key.specs.Node.{Node, IsNode};
 ghost use Rattle.m_key.specs.Key.{key_bytes};
 ghost use Rattle.m_key.specs.KeyEnd.{key_len};
+ghost use Rattle.gds_header.specs.Fields.{fields_of, block_of};
 ghost use Rattle.gds_law.specs.Number.{is_number_text, is_number_bytes};
 ghost use Rattle.gds_law.specs.Key.{key_fault};
+
+/// The blocks of a file's units are as long as its header says, and unit n + 1 is block n.
+pub fn units_are_blocks()
+    ensures length { (file : List ℕ) → block_length file ≡ (fields_of file).block_size }
+    ensures bytes { (file : List ℕ) (n : ℕ) → unit_bytes file (n + 1) ≡ block_of file n }
+{}
 
 /// The test of numbers' texts passes those that a number has.
 pub fn text_test()

@@ -15,7 +15,7 @@ mod visit;
 
 pub use fault::Fault;
 pub use kind::FaultKind;
-pub use laws::{bytes_test, key_test, text_test};
+pub use laws::{bytes_test, key_test, text_test, units_are_blocks};
 pub use line_laws::lines;
 pub use path::Path;
 pub use path_laws::{fault_lists, kept_paths};

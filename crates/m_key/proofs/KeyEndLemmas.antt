@@ -2,14 +2,14 @@
 use Rattle.std.proofs.Common.{ℕ, zero, suc, ◌≡◌, ◌+◌, ◌≤◌, ◌<◌, Bool, true, false, cond, List, [], ◌∷◌, ◌++◌, length}
 use Rattle.std.proofs.Common.{get_or, take, drop, Option, Some, None, ◌⊎◌, inl, inr, refl, sym, ◌∙◌, ap, subst, arith}
 use Rattle.std.proofs.Common.{length-take}
-use Rattle.std.specs.Prelude.{◌&&◌, ◌==◌, nat_eq, option_map, slice_get}
+use Rattle.std.specs.Prelude.{◌&&◌, ◌==◌, nat_eq, nat_le, option_map, option_and_then, slice_get}
 use Rattle.std.specs.Ordering.{nat_cmp}
 use Rattle.std.specs.Cmp.Lexicographic.{slice_cmp}
 use Rattle.std.specs.declared.cmp.Ordering.TheVariants.{Less}
 use Rattle.std.proofs.Math.Numerals.{one-add}
-use Rattle.std.proofs.lemmas.Bool.{eqb-true, ne_eqb, cases_lt}
+use Rattle.std.proofs.lemmas.Bool.{eqb-true, ne_eqb, cases_lt, leb-true, leb-false}
 use Rattle.std.proofs.lemmas.Cmp.{nat_list_cmp_total, tied_itself}
-use Rattle.std.proofs.lemmas.List.{drop_all, take_all, take-append-drop}
+use Rattle.std.proofs.lemmas.List.{drop_all, take_all, take-append-drop, take-take}
 use Rattle.std.proofs.lemmas.List.Sums.{common_prefix_len-le, common_prefix_len-drop_no}
 use Rattle.m_key.specs.KeyEnd.{key_len, end_in, zero_after, IsKey, HasOpenFronts, shared}
 
@@ -143,6 +143,61 @@ key_len-append key rest n h = key_len-end_in (key ++ rest)
 
 pub key_len-within : (bytes : List ℕ) (n : ℕ) → key_len bytes ≡ Some n → n ≤ length bytes
 key_len-within bytes n h = end_in-within bytes false n (sym (key_len-end_in bytes) ∙ h)
+
+-- ---- the ends in a front of bytes
+
+take_none : (bytes : List ℕ) (m : ℕ) (o : Option ℕ) → key_len (take m bytes) ≡ o → key_len bytes ≡ None → o ≡ None
+take_none bytes m None e h = refl
+take_none bytes m (Some n) e h =
+    let more : key_len bytes ≡ Some n = ap key_len (sym (take-append-drop m bytes))
+    ∙ key_len-append (take m bytes) (drop m bytes) n e in
+    absurd (cc)
+
+-- no end
+pub key_len-take_none : (bytes : List ℕ) (m : ℕ) → key_len bytes ≡ None → key_len (take m bytes) ≡ None
+key_len-take_none bytes m h = take_none bytes m (key_len (take m bytes)) refl h
+
+-- an end behind the front
+pub key_len-take_less : (bytes : List ℕ) (m n : ℕ) → key_len bytes ≡ Some n → m < n → key_len (take m bytes) ≡ None
+key_len-take_less bytes m n h less = key_len-end_in (take m bytes)
+    ∙ end_in-take_less bytes false n m (sym (key_len-end_in bytes) ∙ h) less
+
+-- an end in the front
+pub key_len-take_more : (bytes : List ℕ) (m n : ℕ) → key_len bytes ≡ Some n → n ≤ m → key_len (take m bytes) ≡ Some n
+key_len-take_more bytes m n h le =
+    let same : key_len (take n bytes) ≡ Some n = key_len-end_in (take n bytes)
+    ∙ end_in-take_same bytes false n (sym (key_len-end_in bytes) ∙ h) in
+    let front : take n (take m bytes) ≡ take n bytes = take-take n m bytes le in
+    ap key_len (sym (take-append-drop n (take m bytes)) ∙ ap (λ xs. xs ++ drop n (take m bytes)) front)
+    ∙ key_len-append (take n bytes) _ n same
+
+-- ---- the end of a key that begins with a front and ends in a body
+
+module _ (limit : ℕ) (front body : List ℕ) where
+  abbrev at : ℕ → ℕ
+  at n = length front + n
+
+  -- the end that was found, if the key is no longer than the limit
+  abbrev kept : Option ℕ → Option ℕ
+  kept o = option_and_then (λ n. cond (nat_le (at n) limit) (Some n) None) o
+
+  by_length : (n : ℕ) (t : Bool) → nat_le (at n) limit ≡ t → key_len (front ++ body) ≡ Some (at n)
+      → key_len (take limit (front ++ body)) ≡ option_map at (cond t (Some n) None)
+  by_length n true e h = key_len-take_more (front ++ body) limit (at n) h (leb-true (at n) limit e)
+  by_length n false e h = key_len-take_less (front ++ body) limit (at n) h (leb-false (at n) limit e)
+
+  by_end : (o : Option ℕ) → key_len (front ++ body) ≡ option_map at o
+      → key_len (take limit (front ++ body)) ≡ option_map at (kept o)
+  by_end None h = key_len-take_none (front ++ body) limit h
+  by_end (Some n) h = by_length n (nat_le (at n) limit) refl h
+
+  -- Where no key ends in the front, the key that ends in the body is the first of both.
+  pub key_len-end_within : (o : Option ℕ) → o ≡ end_in (zero_after false front) body → key_len front ≡ None
+      → key_len (take limit (front ++ body)) ≡ option_map at (kept o)
+  key_len-end_within o e h =
+      by_end o
+      (key_len-end_in (front ++ body) ∙ end_in-append_open front body false (sym (key_len-end_in front) ∙ h)
+      ∙ ap (option_map at) (sym e))
 
 pub HasOpenFronts-nil : HasOpenFronts []
 HasOpenFronts-nil n h = absurd (omega arith)

@@ -152,6 +152,10 @@ name_part-alone (x ∷ xs) h =
     ∙ ap (λ t. cond (not t) (x ∷ name_part xs) []) (ne_eqb x 0 (λ e. omega (arith, h.0)))
     ∙ ap (λ l. x ∷ l) (name_part-alone xs h.1)
 
+-- The name that a zero ends is the name of the whole.
+pub name_part-ended : (name rest : List ℕ) → NoZero name → name_part (name ++ 0 ∷ rest) ≡ name
+name_part-ended name rest h = name_part-append name rest ∙ name_part-alone name h
+
 pub name_part-none : (bytes : List ℕ) → All (λ b. 0 < b) bytes → bytes ≡ name_part bytes
 name_part-none bytes h = sym (name_part-alone bytes (recursion_from_All (λ b. 0 < b) bytes h))
 

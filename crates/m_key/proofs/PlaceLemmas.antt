@@ -22,7 +22,7 @@ IsSubscript-prop (string text) = hlevel props
 IsNode-prop : (n : Node) → IsProp (IsNode n)
 IsNode-prop n = hlevel (IsSubscript-prop, props)
 
-same_place : (p q : Place) → p.node ≡ q.node → p ≡ q
+pub same_place : (p q : Place) → p.node ≡ q.node → p ≡ q
 same_place p q e =
     let pairs : ◌≡◌ {A = (n : Node) × IsNode n} (p.node, p.right) (q.node, q.right) = Σ_prop_path IsNode-prop e in
     λ i. record { node = (pairs i).0; right = (pairs i).1 }

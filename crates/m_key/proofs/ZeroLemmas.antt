@@ -5,7 +5,6 @@ use Rattle.std.specs.Ordering.{ordering_then}
 use Rattle.std.specs.Cmp.Lexicographic.{slice_cmp}
 use Rattle.std.specs.List.{AllByRecursion}
 use Rattle.std.proofs.lemmas.Bool.{cases_order}
-use Rattle.std.proofs.lemmas.Bool.Decides.{nat_tests}
 use Rattle.m_number.proofs.OrderingLemmas.{nat_cmp_less, nat_cmp_same, nat_cmp_greater, then_assoc}
 
 abbrev pub NoZero : List ℕ → Type 0

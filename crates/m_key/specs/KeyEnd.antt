@@ -1,6 +1,6 @@
 -- The ends of keys, and what neighbouring keys share.
-use Rattle.std.specs.Prelude.{ℕ, suc, ◌≡◌, ◌≤◌, ◌<◌, Bool, ◌==◌, ◌&&◌, nat_eq, if◌then◌else◌, List, [], ◌∷◌, length}
-use Rattle.std.specs.Prelude.{take, Option, Some, None, option_map}
+use Rattle.std.specs.Prelude.{ℕ, suc, ◌+◌, ◌≡◌, ◌≤◌, ◌<◌, Bool, false, ◌==◌, ◌&&◌, nat_eq, nat_le, if◌then◌else◌}
+use Rattle.std.specs.Prelude.{List, [], ◌∷◌, length, take, Option, Some, None, option_map, option_and_then}
 use Rattle.std.specs.List.{common_prefix_len}
 
 -- how many bytes there are up to the first two neighbouring zero bytes, both included, where there are two
@@ -27,6 +27,12 @@ end_in after_zero (b ∷ bytes) = if after_zero && (b == 0) then Some 1 else opt
 abbrev pub zero_after : Bool → List ℕ → Bool
 zero_after before [] = before
 zero_after before (b ∷ bytes) = zero_after (b == 0) bytes
+
+-- how many bytes of a body end the key that begins with these bytes, where that key has no more bytes than the limit
+abbrev pub end_within : ℕ → List ℕ → List ℕ → Option ℕ
+end_within limit front body =
+    option_and_then (λ n. if nat_le (length front + n) limit then Some n else None)
+    (end_in (zero_after false front) body)
 
 -- how many leading bytes two keys share
 abbrev pub shared : List ℕ → List ℕ → ℕ

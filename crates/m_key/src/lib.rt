@@ -17,7 +17,7 @@ mod subscript;
 pub use collation::compare;
 pub use escapes::is_escaped_text;
 pub use key::{Key, KeyTooLong};
-pub use key_end::{end_in, ends_in_zero, join_key, key_from, shared_len};
+pub use key_end::{end_in, end_within, ends_in_zero, join_key, key_from, shared_len};
 pub use key_parts::{
     SubscriptParts, has_subscripts, name_part, split_at_zero, subscript_count, subscript_parts,
 };

@@ -17,7 +17,7 @@ use Rattle.std.proofs.lemmas.Map.Lookups.{exact_signed, exact_bytes, exact_unsig
 use Rattle.m_number.specs.Numeral.{Numeral, IsNumeral}
 use Rattle.m_number.specs.Bytes.{first_byte, pairs_of, complement, size_bytes, bytes_of}
 use Rattle.m_number.specs.Order.{size_cmp, number_cmp}
-use Rattle.m_number.proofs.OrderingLemmas.{nat_cmp_less, nat_cmp_equal, nat_cmp_greater, then_assoc}
+use Rattle.m_number.proofs.OrderingLemmas.{nat_cmp_less, nat_cmp_equal, nat_cmp_greater, then_assoc, then_equal}
 use Rattle.std.proofs.lemmas.Bool.Decides.{nat_tests}
 
 -- digits, each below 10
@@ -243,11 +243,6 @@ bytes_in_order a b ha hb =
     order_by a b ha hb (eqb (length a.digits) 0) (eqb (length b.digits) 0) a.negative b.negative refl refl
 
 -- Only equal numbers compare as equal.
-then_equal : (o p : Ordering) → ordering_then o p ≡ Equal → (o ≡ Equal) × (p ≡ Equal)
-then_equal Less p e = absurd (cc)
-then_equal Equal p e = (refl, e)
-then_equal Greater p e = absurd (cc)
-
 sizes_equal : (a b : Numeral) → size_cmp a b ≡ Equal → (a.digits ≡ b.digits) × (a.exponent ≡ b.exponent)
 sizes_equal a b e =
     let p = then_equal (int_cmp a.exponent b.exponent) (slice_cmp nat_cmp a.digits b.digits) e in

@@ -1,6 +1,6 @@
 -- Numbers compared, and comparisons one after another.
-use Rattle.std.proofs.Common.{◌≡◌, ℕ, ◌<◌, refl, sym}
-use Rattle.std.specs.Ordering.{nat_cmp, ordering_then}
+use Rattle.std.proofs.Common.{◌≡◌, ℕ, ◌<◌, true, refl, sym}
+use Rattle.std.specs.Ordering.{nat_cmp, ordering_then, is_lt}
 use Rattle.std.specs.Cmp.{nat_cmp_is}
 use Rattle.std.specs.declared.cmp.Ordering.{Ordering}
 use Rattle.std.specs.declared.cmp.Ordering.TheVariants.{Less, Equal, Greater}
@@ -21,3 +21,14 @@ pub then_assoc : (p q r : Ordering) → ordering_then (ordering_then p q) r ≡ 
 then_assoc Less q r = refl
 then_assoc Equal q r = refl
 then_assoc Greater q r = refl
+
+-- Only equal things compare as equal, one after another.
+pub then_equal : (p q : Ordering) → ordering_then p q ≡ Equal → (p ≡ Equal) × (q ≡ Equal)
+then_equal Less q e = absurd (cc)
+then_equal Equal q e = (refl, e)
+then_equal Greater q e = absurd (cc)
+
+pub Less-is_lt : (o : Ordering) → is_lt o ≡ true → o ≡ Less
+Less-is_lt Less h = refl
+Less-is_lt Equal h = absurd (cc)
+Less-is_lt Greater h = absurd (cc)

@@ -211,7 +211,7 @@ large_again d ds e last =
     large_not_point (large_text (d ∷ ds) (e + 1)) (λ h. absurd (omega (arith, start, h)))
     ∙ large_again_by d ds e last (leb (length (d ∷ ds)) (e + 1)) refl
 
-some_digits : (d : ℕ) (ds : List ℕ) → eqb (length (d ∷ ds)) 0 ≡ false
+pub some_digits : (d : ℕ) (ds : List ℕ) → eqb (length (d ∷ ds)) 0 ≡ false
 some_digits d ds = lt_not_eqb 0 (length (d ∷ ds)) (omega arith)
 
 -- with digits it isn't zero

@@ -6,7 +6,8 @@ use Rattle.gds_bitmap.proofs.pairs.with_pair.Goals as goal
 pub returns-clause-set : goal.returns-clause-set
 returns-clause-set c =
     let place = c.args.place in
-    pair_in-replaced place c.args.pair c.args.byte place c.requires.placed c.requires.in_range (omega arith) c.requires.placed
+    pair_in-replaced place c.args.pair c.args.byte place c.requires.placed c.requires.in_range (omega arith)
+    c.requires.placed
     ∙ rw (eq-eqb place place refl) refl
 
 pub returns-clause-others : goal.returns-clause-others

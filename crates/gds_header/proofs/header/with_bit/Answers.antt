@@ -12,4 +12,5 @@ pub returns-else-is_set-clause-bit : goal.returns-else-is_set-clause-bit
 returns-else-is_set-clause-bit c = rw c.if-is_set.false (bit_at_clear_same w8 c.args.byte c.args.bit c.requires)
 
 pub returns-else-is_set-clause-others : goal.returns-else-is_set-clause-others
-returns-else-is_set-clause-others c k within other = bit_at_clear_other w8 c.args.byte c.args.bit c.requires k within other
+returns-else-is_set-clause-others c k within other =
+    bit_at_clear_other w8 c.args.byte c.args.bit c.requires k within other

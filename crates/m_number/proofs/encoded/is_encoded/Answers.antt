@@ -1,7 +1,6 @@
-use Rattle.std.proofs.Common.{◌≡◌, ℕ, Bool, true, ◌++◌, List, [], ◌∷◌, length, sym, ap, ◌∙◌, subst, ◌↔◌, ◌==◌, arith}
-use Rattle.std.proofs.lemmas.Bool.{false≢true, eqb-true}
+use Rattle.std.proofs.Common.{◌++◌, [], ◌∷◌, ap, ◌∙◌, subst, arith}
+use Rattle.std.proofs.lemmas.Bool.{eqb-true}
 use Rattle.std.proofs.lemmas.List.{nil_from_length}
-use Rattle.m_number.specs.Packed.{is_nonzero}
 use Rattle.m_number.proofs.EncodedLemmas.{IsEncoded, encoded_at, encoded_never, encoded_zero, encoded_plus}
 use Rattle.m_number.proofs.EncodedLemmas.{encoded_minus}
 use Rattle.m_number.proofs.EncodedLemmas.{encoded_none, encoded_alone, encoded_open}

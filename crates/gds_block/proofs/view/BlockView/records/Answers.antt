@@ -13,10 +13,13 @@ pub returns-clause-listed : goal.returns-clause-listed
 returns-clause-listed c = listed c
 
 pub returns-clause-longest : goal.returns-clause-longest
-returns-clause-longest c = rw (listed c) (AreRecords-records_from (level_of c.args.self.now) 16 (bytes_left c.args.self.now 16))
+returns-clause-longest c =
+    rw (listed c) (AreRecords-records_from (level_of c.args.self.now) 16 (bytes_left c.args.self.now 16))
 
 pub returns-clause-only : goal.returns-clause-only
-returns-clause-only c = λ others h. records_from-unique (level_of c.args.self.now) 16 (bytes_left c.args.self.now 16) others h ∙ sym (listed c)
+returns-clause-only c =
+    λ others h. records_from-unique (level_of c.args.self.now) 16 (bytes_left c.args.self.now 16) others h
+    ∙ sym (listed c)
 
 pub returns-clause-placed : goal.returns-clause-placed
 returns-clause-placed c =
@@ -27,4 +30,9 @@ pub returns-clause-few : goal.returns-clause-few
 returns-clause-few c =
     let body = drop 16 c.self.inside.bytes.now in
     let left = take (c.u32_at-used.result - 16) body in
-    omega (arith, ap length c.new.ensures, few_records c.level.result 16 left, length-take (c.u32_at-used.result - 16) body)
+    omega (
+      arith,
+      ap length c.new.ensures,
+      few_records c.level.result 16 left,
+      length-take (c.u32_at-used.result - 16) body,
+    )

@@ -9,7 +9,9 @@ filled c = zeros-replicate _ _ _ (c.fill.ensures.after (λ y same. same)) c.requ
 
 as_bytes : goal.returns-clause-bytes
 as_bytes c =
-    written c.args.self.now _ _ _ _ _ _ _ _ _ _ _ (search rules) (filled c) c.put_bytes.ensures c.put_u32.ensures c.put_u32-2.ensures c.put_u32-3.ensures c.put_u32-4.ensures c.put_u32-5.ensures c.put_u32-6.ensures c.put_u32-7.ensures c.put_u64.ensures c.put_bytes-2.ensures
+    written c.args.self.now _ _ _ _ _ _ _ _ _ _ _ (search rules) (filled c) c.put_bytes.ensures c.put_u32.ensures
+    c.put_u32-2.ensures c.put_u32-3.ensures c.put_u32-4.ensures c.put_u32-5.ensures c.put_u32-6.ensures
+    c.put_u32-7.ensures c.put_u64.ensures c.put_bytes-2.ensures
 
 again : (c : goal.After-slice_known-12-1) → fields_of (header_bytes c.args.self.now) ≡ c.args.self.now
 again c = fields_of-header_bytes c.args.self.now (record {

@@ -1,0 +1,9 @@
+pub mod Maps
+pub mod Reshape
+pub mod Stamp
+pub mod Change
+pub mod SameLaws
+pub mod MapLaws
+pub mod ReshapeLaws
+pub mod FileLaws
+pub mod ChangeLaws

@@ -1,0 +1,2 @@
+//! Laws about a whole file whose trees change.
+#![tactic(auto)]

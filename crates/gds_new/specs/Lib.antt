@@ -1,0 +1,2 @@
+pub mod NewDatabase
+pub mod Laws

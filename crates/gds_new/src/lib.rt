@@ -1,0 +1,2 @@
+//! The bytes of a new database, as a definition.
+#![tactic(auto)]
