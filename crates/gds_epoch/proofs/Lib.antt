@@ -1,2 +1,5 @@
 mod SearchLemmas
+mod LengthLemmas
+mod ToldLemmas
+mod ComeLemmas
 pub mod StateLemmas

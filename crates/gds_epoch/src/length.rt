@@ -7,7 +7,7 @@ ghost use Rattle.host_model.specs.Moments.{EachLeft, HasCome};
 ghost use Rattle.gds_epoch.specs.State.{Rests};
 ghost use Rattle.gds_epoch.specs.Length.{KeepsFront, with_zeros};
 
-use host_model::{Host, HostFailed};
+use host_model::{FileNo, Host, HostFailed};
 
 /// Writes zeros into the database file, from a place in it or its end up to another place. `zeros` is a buffer of
 /// them, of which each write takes what it can.
@@ -25,8 +25,15 @@ pub fn grow_file<H: Host>(host: &mut H, zeros: &[u8], from: u64, to: u64) -> Res
         → EachLeft H.moment H.left_since host.old (Rests image before)
         → HasCome H.moment H.left_since host.old host.new (Rests image before) (Rests image before) }
     ensures failures { NeverFell (H.failures host.old) (H.failures host.new) }
+    ensures failed { OnErr result (Rose (H.failures host.old).write (H.failures host.new).write) }
 {
-    Err(HostFailed)
+    let mut at = from;
+    while at < to {
+        let count = (to - at).min(zeros.len() as u64);
+        host.write_at(FileNo::Db, at, &zeros[..count as usize])?;
+        at += count;
+    }
+    Ok(())
 }
 
 /// Cuts the database file to a length.
@@ -43,6 +50,7 @@ pub fn shorten_file<H: Host>(host: &mut H, len: u64) -> Result<(), HostFailed>
         → EachLeft H.moment H.left_since host.old (Rests image before)
         → HasCome H.moment H.left_since host.old host.new (Rests image before) (Rests image before) }
     ensures failures { NeverFell (H.failures host.old) (H.failures host.new) }
+    ensures failed { OnErr result (Rose (H.failures host.old).write (H.failures host.new).write) }
 {
-    Err(HostFailed)
+    host.cut(FileNo::Db, len)
 }
