@@ -1,14 +1,14 @@
 -- The images of a group, one after another.
-use Rattle.std.proofs.Common.{◌≡◌, ◌≢◌, ◌⊎◌, ℕ, zero, suc, ◌+◌, ◌-◌, ◌<◌, ◌≤◌, Bool, true, false, cond, List, [], ◌∷◌}
-use Rattle.std.proofs.Common.{length, take, drop, Option, None, Some, Result, Ok, Err, refl, sym, ap, subst, ◌∙◌}
-use Rattle.std.proofs.Common.{inl, inr, ⊎_elim, arith, length-take, length-drop, ltb, leb, eqb}
+use Rattle.std.proofs.Common.{◌≡◌, ◌⊎◌, ℕ, zero, suc, ◌+◌, ◌-◌, ◌<◌, ◌≤◌, Bool, true, false, cond, List, [], ◌∷◌}
+use Rattle.std.proofs.Common.{length, Option, None, Some, Result, Ok, Err, refl, sym, ap, subst, ◌∙◌}
+use Rattle.std.proofs.Common.{inl, inr, ⊎_elim, arith, ltb, leb, eqb}
 use Rattle.std.specs.Prelude.{All, not, ◌||◌}
-use Rattle.std.proofs.lemmas.Bool.{cases_lt, eq-eqb, eqb-true, eqb-false, le-leb, le-ltb, leb-true, ltb-false, ne_eqb}
+use Rattle.std.proofs.lemmas.Bool.{eqb-true, eqb-false, le-leb, le-ltb, leb-true, ltb-false, ne_eqb}
 use Rattle.std.proofs.lemmas.Bool.{not-false, or_parts}
 use Rattle.std.proofs.lemmas.List.Elements.{All-cons, All-nil}
-use Rattle.gds_block.specs.Fields.{u32_at, u64_at}
+use Rattle.gds_block.specs.Fields.{u64_at}
 use Rattle.gds_images.specs.declared.chain.Place.{Place}
-use Rattle.gds_images.specs.Chain.{and_then, bad_field, bytes_of, image_at, image_length, images_from, images_up_to}
+use Rattle.gds_images.specs.Chain.{and_then, bad_field, image_at, image_length, images_up_to}
 use Rattle.gds_images.specs.Chain.{unless, with_first}
 use Rattle.gds_images.proofs.AgreeLemmas.{Agree, u32_agrees, u64_agrees}
 
@@ -148,10 +148,15 @@ images_whole (suc n) file epoch at left places within more ok = ⊎_elim
     (images_cases n file epoch at left places ok)
 
 -- A file that agrees with another up to their end has the same images.
-pub images_agree : (n : ℕ) (a b : List ℕ) (end epoch at left : ℕ) (places : List Place) → Agree end a b
-    → at + left ≤ end → images_up_to n a epoch at left ≡ Ok places → images_up_to n b epoch at left ≡ Ok places
-images_agree zero a b end epoch at left places agree within ok = ok
-images_agree (suc n) a b end epoch at left places agree within ok = ⊎_elim
+pub images_agree : (n m : ℕ) (a b : List ℕ) (end epoch at left : ℕ) (places : List Place) → Agree end a b
+    → at + left ≤ end → left ≤ n → left ≤ m → images_up_to n a epoch at left ≡ Ok places
+    → images_up_to m b epoch at left ≡ Ok places
+images_agree zero m a b end epoch at left places agree within few enough ok =
+    let none : left ≡ 0 = omega arith in
+    ap (images_up_to m b epoch at) none ∙ images_end m b epoch at ∙ ok
+images_agree (suc n) zero a b end epoch at left places agree within few enough ok =
+    let none : left ≡ 0 = omega arith in sym (images_end (suc n) a epoch at) ∙ ap (images_up_to (suc n) a epoch at) (sym none) ∙ ok
+images_agree (suc n) (suc m) a b end epoch at left places agree within few enough ok = ⊎_elim
     (λ ended. rw (ended.0, ended.1))
     (λ (read : Reads n a epoch at left places).
     let len = image_length a at in
@@ -161,9 +166,9 @@ images_agree (suc n) a b end epoch at left places agree within ok = ⊎_elim
     let same_len = u32_agrees end a b agree (at + 8) (omega arith) in
     let there : IsGood b epoch at left len =
     record { some = good.some; fills = fills; whole = omega (arith, agree.second_long); low = omega (arith, good.low) } in
-    let rest = images_agree n a b end epoch (at + 12 + len) (left - (12 + len)) read.more agree (omega arith)
-    read.behind in
-    images_step n b epoch at left len (u64_at a at) same_at same_len there
+    let rest = images_agree n m a b end epoch (at + 12 + len) (left - (12 + len)) read.more agree (omega arith)
+    (omega arith) (omega arith) read.behind in
+    images_step m b epoch at left len (u64_at a at) same_at same_len there
     ∙ ap (λ r. and_then r (with_first (image_at a at))) rest ∙ ap Ok (sym read.all))
     (images_cases n a epoch at left places ok)
 

@@ -1,4 +1,7 @@
 pub mod AgreeLemmas
+pub mod ChainLemmas
+pub mod GateLemmas
+pub mod GroupLemmas
 pub mod ImagesLemmas
 pub mod LaidLemmas
 pub mod RestLemmas

@@ -1,12 +1,11 @@
 -- What is recovered of files at rest.
-use Rattle.std.proofs.Common.{◌≡◌, ℕ, ◌+◌, ◌<◌, ◌≤◌, List, [], ◌∷◌, ◌++◌, length, take, drop, Option, None, Some, Ok}
-use Rattle.std.proofs.Common.{refl, sym, ap, subst, ◌∙◌, ⊎_elim, arith, lit≤, length-take, Bool, true, false, cond, leb, ltb, eqb, get_or, get_or-take}
+use Rattle.std.proofs.Common.{◌≡◌, ℕ, ◌<◌, ◌≤◌, List, [], length, take, Option, None, Some, Ok}
+use Rattle.std.proofs.Common.{refl, sym, ap, ◌∙◌, ⊎_elim, arith, lit≤, length-take, true, false, cond, leb, ltb, get_or-take}
 use Rattle.std.specs.Prelude.{nat_eq, slice_index}
 use Rattle.std.specs.List.{starts_with}
 use Rattle.std.specs.Cmp.Lexicographic.{pointwise}
-use Rattle.std.proofs.lemmas.Bool.{cases_lt, le-ltb, lt-ltb, cases_Bool, le-leb}
-use Rattle.std.proofs.lemmas.List.{take-take, take-append-drop}
-use Rattle.host_model.specs.Files.{Contents}
+use Rattle.std.proofs.lemmas.Bool.{cases_lt, le-ltb, le-leb}
+use Rattle.std.proofs.lemmas.List.{take-take}
 use Rattle.gds_header.specs.Fields.{file_length_of, image_length}
 use Rattle.gds_header.specs.Kinds.{ending_kind, unreadable}
 use Rattle.gds_header.specs.declared.kind.HeaderKind.{HeaderKind}
@@ -14,8 +13,8 @@ use Rattle.gds_header.specs.declared.kind.HeaderKind.TheVariants.{ShortFile}
 use Rattle.gds_header.proofs.EndingLemmas.{ending_kind-short, ending_kind-readable, ending_kind-unreadable, fields_of-front}
 use Rattle.gds_images.specs.Chain.{chain_of, first_gate, label}
 use Rattle.gds_images.specs.Laws.{RestIsFound}
-use Rattle.gds_images.specs.Outcome.{IsAtRest, IsClosed, IsWhole}
-use Rattle.gds_images.specs.Recovered.{recovered, recovered_by, laid_back, trimmed, trimmed_by}
+use Rattle.gds_images.specs.Outcome.{IsClosed, IsWhole}
+use Rattle.gds_images.specs.Recovered.{recovered, recovered_by, trimmed, trimmed_by}
 
 none_of : (o : Option HeaderKind) → ((kind : HeaderKind) → o ≡ Some kind → ⊥) → o ≡ None
 none_of None never = refl

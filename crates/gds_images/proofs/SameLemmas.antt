@@ -1,5 +1,5 @@
 -- To be the same is an equivalence: header and maps are equal, so both files say alike which blocks are new.
-use Rattle.std.proofs.Common.{◌≡◌, ℕ, ◌+◌, ◌-◌, ◌*◌, ◌/◌, ◌%◌, ◌<◌, ◌≤◌, Bool, true, false, List, length, take, drop}
+use Rattle.std.proofs.Common.{◌≡◌, ℕ, ◌+◌, ◌-◌, ◌*◌, ◌/◌, ◌%◌, ◌<◌, ◌≤◌, Bool, false, List, length, take, drop}
 use Rattle.std.proofs.Common.{slice_index, refl, sym, ap, ◌∙◌, ⊎_elim, arith, leb, eqb, length-take, get_or-take, get_or-drop}
 use Rattle.std.specs.Prelude.{◌&&◌, not}
 use Rattle.std.proofs.lemmas.Bool.{cases_lt, eq-eqb, lt-leb, and_left, and_right}
@@ -8,7 +8,7 @@ use Rattle.std.proofs.lemmas.Nat.{div-mul-add, mod-mul-add}
 use Rattle.gds_bitmap.specs.Pairs.{pair_in}
 use Rattle.gds_block.specs.Fields.{u32_at}
 use Rattle.gds_block.proofs.FieldLemmas.{u32_at-same}
-use Rattle.gds_images.specs.Laws.{IsEquivalence, SameIsEquivalence}
+use Rattle.gds_images.specs.Laws.{SameIsEquivalence}
 use Rattle.gds_images.specs.Same.{IsSame, is_in_new_block}
 
 -- the byte j of the map of a group, in a file whose blocks have this size

@@ -1,5 +1,5 @@
 -- The bytes of a group of images, as they are written behind its gate.
-use Rattle.std.specs.Prelude.{ℕ, ◌+◌, ◌==◌, Bool, List, [], ◌∷◌, ◌++◌, length, if◌then◌else◌}
+use Rattle.std.specs.Prelude.{ℕ, ◌+◌, ◌==◌, List, [], ◌∷◌, ◌++◌, length, if◌then◌else◌}
 use Rattle.std.specs.List.{flat_map}
 use Rattle.gds_block.specs.Fields.{u32_bytes, u64_bytes}
 use Rattle.gds_images.specs.declared.chain.Place.{Place}

@@ -6,7 +6,7 @@ use Rattle.gds_images.specs.declared.chain.Chain.{Chain}
 use Rattle.gds_images.specs.declared.chain.Place.{Place}
 use Rattle.gds_images.specs.Chain.{bytes_of, chain_of, first_gate}
 use Rattle.gds_images.specs.Group.{Image, gate_behind, group_bytes, images_place, places_from}
-use Rattle.gds_images.specs.Recovered.{laid, recovered, trimmed}
+use Rattle.gds_images.specs.Recovered.{laid, recovered}
 use Rattle.gds_images.specs.Same.{IsSame}
 use Rattle.gds_images.specs.Outcome.{IsAtRest}
 

@@ -1,5 +1,20 @@
-ghost use Rattle.gds_images.specs.Laws.{LaysBackItself, LaysOverOutside};
+ghost use Rattle.gds_images.specs.Laws.{EndsAtItsGate, LaysBackItself, LaysOverOutside, NeedsItsEpoch, OpensToGroup};
 ghost use Rattle.gds_images.specs.Laws.{RestIsFound, SameIsEquivalence};
+
+/// What stands behind the closed gate of a file of images doesn't matter.
+pub fn ends_at_its_gate()
+    ensures { EndsAtItsGate }
+{}
+
+/// A good chain is the same beside each database that is as long as that of its epoch.
+pub fn needs_its_epoch()
+    ensures { NeedsItsEpoch }
+{}
+
+/// Where a group stands behind the closed gate, opening the gate appends its images.
+pub fn opens_to_group()
+    ensures { OpensToGroup }
+{}
 
 /// What is laid back depends on the bytes outside the images' ranges alone.
 pub fn lays_over_outside()
