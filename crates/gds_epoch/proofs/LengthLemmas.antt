@@ -59,7 +59,8 @@ BehindOnly-then n a b c first second = record {
   said = second.said ∙ first.said;
 }
 
-pub behind_write : (n at len : ℕ) → n ≤ at → (old new : Contents) → Changes Db (Torn at len) old new → BehindOnly n old new
+pub behind_write : (n at len : ℕ) → n ≤ at → (old new : Contents) → Changes Db (Torn at len) old new
+    → BehindOnly n old new
 behind_write n at len below old new step = record {
   changed = StaysBefore-torn n at len old.db new.db below step.changed;
   other = step.other;
@@ -121,7 +122,8 @@ pub more_zeros : (from at n count : ℕ) (zeros file : List ℕ) → zeros ≡ r
     ≡ written from (replicate (at + count - from) 0) file
 more_zeros from at n count zeros file are short behind within =
     let piece : take count zeros ≡ replicate count 0 = ap (take count) are ∙ take-replicate count n 0 short in
-    let next : at ≡ from + length (replicate {A = ℕ} (at - from) 0) = omega (arith, length-replicate {A = ℕ} (at - from) 0) in
+    let next : at ≡ from + length (replicate {A = ℕ} (at - from) 0) =
+    omega (arith, length-replicate {A = ℕ} (at - from) 0) in
     let sum : at - from + count ≡ at + count - from = omega arith in
     written-written from at (replicate (at - from) 0) (take count zeros) file next within
     ∙ ap (λ xs. written from (replicate (at - from) 0 ++ xs) file) piece
@@ -153,8 +155,8 @@ zeros_torn from at len c d e behind is step =
 
 -- and one that was made
 pub zeros_written : (from at n count : ℕ) (zeros : List ℕ) (c d e : Contents) → zeros ≡ replicate n 0 → count ≤ n
-    → from ≤ at → from ≤ length c.db → d ≡ with_zeros from at c → e ≡ with_file Db (written at (take count zeros) d.db) d
-    → e ≡ with_zeros from (at + count) c
+    → from ≤ at → from ≤ length c.db → d ≡ with_zeros from at c
+    → e ≡ with_file Db (written at (take count zeros) d.db) d → e ≡ with_zeros from (at + count) c
 zeros_written from at n count zeros c d e are short behind within so_far is =
     is ∙ ap (λ (x : Contents). with_file Db (written at (take count zeros) x.db) x) so_far
     ∙ ap (λ xs. record c { db = xs }) (more_zeros from at n count zeros c.db are short behind within)

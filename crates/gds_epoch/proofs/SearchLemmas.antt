@@ -96,7 +96,8 @@ module _ (items : List UnitBytes) (rising : IsRising (units_of items)) (number :
 
   numbers_rise : (i j : ℕ) → i ≤ j → j < length items → number_at (units_of items) i ≤ number_at (units_of items) j
   numbers_rise i j le below =
-      let same : i ≡ j → number_at (units_of items) i ≡ number_at (units_of items) j = ap (number_at (units_of items)) in
+      let same : i ≡ j → number_at (units_of items) i ≡ number_at (units_of items) j =
+      ap (number_at (units_of items)) in
       grind (arith, rising i j no_unit, same, length-map items unit_of)
 
   -- the comparisons with the number rise along the list, as a binary search asks

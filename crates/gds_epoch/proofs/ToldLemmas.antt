@@ -1,5 +1,5 @@
 -- What is told after a call of a host, where something is known of what was told before.
-use Rattle.std.proofs.Common.{◌≡◌, ℕ, List, length, Option, None, Some, Result, Ok, Err, OnOk, refl, subst, sym}
+use Rattle.std.proofs.Common.{◌≡◌, ℕ, List, length, Option, None, Some, Result, Ok, Err, refl, subst, sym}
 use Rattle.host_model.specs.declared.host.FileNo.{FileNo}
 use Rattle.host_model.specs.Disk.{Changes, Cut, Cuts, Torn, Writes}
 use Rattle.host_model.specs.Files.{Contents, file_of}

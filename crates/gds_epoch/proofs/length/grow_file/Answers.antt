@@ -7,7 +7,8 @@ use Rattle.host_model.proofs.MomentLemmas.{by_write}
 use Rattle.gds_epoch.specs.Length.{KeepsFront, with_zeros}
 use Rattle.gds_epoch.specs.State.{Rests}
 use Rattle.gds_epoch.proofs.ComeLemmas.{by_more, keeps}
-use Rattle.gds_epoch.proofs.LengthLemmas.{BehindOnly, BehindOnly-then, behind_write, keeps_front, rests_before, zeros_torn, zeros_written}
+use Rattle.gds_epoch.proofs.LengthLemmas.{BehindOnly, BehindOnly-then, behind_write, keeps_front, rests_before}
+use Rattle.gds_epoch.proofs.LengthLemmas.{zeros_torn, zeros_written}
 use Rattle.gds_epoch.proofs.ToldLemmas.{told_then, writes_torn}
 use Rattle.gds_epoch.proofs.length.grow_file.Goals as goal
 
@@ -34,8 +35,8 @@ returns-in_err-write_at-clause-any_moment g c =
     (λ x y rests step. rests_before image before from short x y rests step)
     each
     (by_more g.met.H.Host.longer (BehindOnly from) (Changes Db (Torn at (length bytes))) c.args.host.now
-    c.loop-at.host c.write_at.new.self (BehindOnly-then from) (behind_write from at (length bytes) c.loop-at.invariant.behind)
-    c.loop-at.invariant.by
+    c.loop-at.host c.write_at.new.self (BehindOnly-then from)
+    (behind_write from at (length bytes) c.loop-at.invariant.behind) c.loop-at.invariant.by
     (by_write g.H.Host.moment g.H.Host.left_since g.H.Host.failures Db at (length bytes) c.loop-at.host
     c.write_at.new.self c.write_at.ensures.crash c.write_at.ensures.called))
 

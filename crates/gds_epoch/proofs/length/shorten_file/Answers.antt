@@ -1,7 +1,6 @@
-use Rattle.std.proofs.Common.{◌≡◌, take, Ok}
+use Rattle.std.proofs.Common.{◌≡◌, take}
 use Rattle.host_model.specs.declared.host.FileNo.TheVariants.{Db}
 use Rattle.host_model.specs.Disk.{Changes, Cut, Cuts}
-use Rattle.host_model.specs.Files.{Contents}
 use Rattle.host_model.specs.Told.{TellsOn}
 use Rattle.host_model.proofs.FileLemmas.{file_changed}
 use Rattle.host_model.proofs.MomentLemmas.{by_cut}
@@ -28,8 +27,8 @@ returns-clause-shortened g c =
     let before = g.H.Host.told c.args.host.now in
     let after = g.H.Host.told c.cut.new.self in
     when_ok (λ r. TellsOn before after (Changes Db (Cuts n r))) c.cut.result c.cut.ensures.told
-    (λ ok told.
-    told_weaker before after (Changes Db (Cuts n (Ok ok))) (λ x y. y ≡ record x { db = take n x.db })
+    (λ done told.
+    told_weaker before after (Changes Db (λ old new. new ≡ take n old)) (λ x y. y ≡ record x { db = take n x.db })
     (λ x y tells step. file_changed Db (take n x.db) x y step step.changed) told)
 
 pub returns-clause-any_moment : goal.returns-clause-any_moment
