@@ -41,3 +41,10 @@ cuts_cut file n (Ok x) old new step = record {
   said = step.said;
 }
 cuts_cut file n (Err e) old new step = record { changed = step.changed; other = step.other; said = step.said }
+
+-- what was told before by a host that tells this now
+pub told_before : (a b : Option Contents) (R : Contents → Contents → Type 0) (y : Contents)
+    → (a ≡ None → b ≡ None) → b ≡ Some y → TellsOn a b R → (x : Contents) × (a ≡ Some x) × R x y
+told_before None b R y untold is tells = let none = untold refl in absurd (cc)
+told_before (Some x) None R y untold is tells = absurd tells
+told_before (Some x) (Some z) R y untold is tells = let same : z ≡ y = cc in (x, refl, rw same at tells)

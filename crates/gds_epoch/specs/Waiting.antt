@@ -1,6 +1,6 @@
 -- Units of the database file that wait in memory, and the file with them in their places.
 use Rattle.std.specs.Prelude.{ℕ, ◌+◌, ◌-◌, ◌*◌, ◌==◌, ◌<◌, ◌≤◌, ◌≡◌, nat_lt, List, [], ◌∷◌, length}
-use Rattle.std.specs.Prelude.{AllPairs, Option, Some, None, if◌then◌else◌}
+use Rattle.std.specs.Prelude.{All, AllPairs, Any, slice_index, Option, Some, None, if◌then◌else◌}
 use Rattle.host_model.specs.Disk.{written}
 
 -- a unit and the bytes that it is to have
@@ -46,3 +46,17 @@ abbrev pub patched : ℕ → List WaitingUnit → List ℕ → List ℕ
 patched block_size [] file = file
 patched block_size (first ∷ units) file =
     patched block_size units (written (place_of block_size first.unit) first.bytes file)
+
+-- The byte of the file at a place lies in the range of one of the units.
+abbrev pub IsUnder : ℕ → List WaitingUnit → ℕ → Type 0
+IsUnder block_size units i =
+    Any (λ waiting. (place_of block_size waiting.unit ≤ i)
+    × (i < place_of block_size waiting.unit + length waiting.bytes)) units
+
+-- Writes of these units that may be torn: bytes outside their ranges stay, and the file is no shorter, and no longer
+-- than what has room for all.
+pub record TornUnits (block_size : ℕ) (units : List WaitingUnit) (old new : List ℕ) : Type 0 where
+  pub no_shorter : length old ≤ length new
+  pub no_longer : (n : ℕ) → length old ≤ n
+      → All (λ waiting. place_of block_size waiting.unit + length waiting.bytes ≤ n) units → length new ≤ n
+  pub outside : (i : ℕ) → i < length old → (IsUnder block_size units i → ⊥) → slice_index new i ≡ slice_index old i

@@ -11,8 +11,12 @@ ghost use Rattle.gds_epoch.specs.Epoch.{FindsEither, IsDone, IsReady, StaysPatch
 ghost use Rattle.gds_epoch.specs.Waiting.{patched};
 
 use crate::Waiting;
-use gds_images::Group;
+use crate::units::write_units;
+use gds_images::{Group, append_group, close_gate, open_gate};
 use host_model::{Host, HostFailed};
+
+/// Where gate 0 stands in the file of images.
+const FIRST_GATE: u64 = 8;
 
 /// Makes the units that wait durable: the database with them in their places becomes that of the new epoch.
 ///
@@ -47,5 +51,8 @@ pub fn write_epoch<H: Host>(
     ensures clock { H.moment host.new ≤ H.moment host.old + (3 * length waiting.now.units + 8) }
     ensures failures { NeverFell (H.failures host.old) (H.failures host.new) }
 {
-    Err(HostFailed)
+    append_group(host, FIRST_GATE, images, epoch_length)?;
+    open_gate(host, FIRST_GATE)?;
+    write_units(host, waiting.as_slice(), block_size)?;
+    close_gate(host)
 }

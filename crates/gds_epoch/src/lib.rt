@@ -7,8 +7,10 @@
 
 mod epoch;
 mod length;
+mod units;
 mod waiting;
 
 pub use epoch::write_epoch;
 pub use length::{grow_file, shorten_file};
+pub use units::place_of;
 pub use waiting::{UnitBytes, Waiting};

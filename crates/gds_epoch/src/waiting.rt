@@ -3,7 +3,7 @@ ghost use Rattle.std.specs.Option.{option_copied};
 ghost use Rattle.gds_epoch.specs.Waiting.{IsRising, waiting_bytes, with_unit};
 ghost use Rattle.std.specs.List.{insert};
 ghost use Rattle.std.specs.Vec.{vec_capacity};
-ghost use Rattle.gds_epoch.specs.WaitingView.{IsAt, IsGapFor, room_of};
+ghost use Rattle.gds_epoch.specs.WaitingView.{IsAt, IsGapFor, room_of, units_of};
 
 use std::alloc::{AllocError, Global};
 use std::marker::Model;
@@ -99,6 +99,14 @@ impl Waiting {
         ensures room { self.old.room ≤ self.new.room }
     {
         self.units.clear();
+    }
+
+    /// The units in the order of their numbers.
+    pub(crate) fn as_slice(&self) -> &[UnitBytes]
+        ensures units { units_of result.now ≡ self.now.units }
+        ensures len { length result.now ≡ length self.now.units }
+    {
+        self.units.as_slice()
     }
 
     /// Where the unit is, or where it would go.
