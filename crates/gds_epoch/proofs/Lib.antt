@@ -5,6 +5,7 @@ mod ComeLemmas
 mod BackLemmas
 mod UnitLemmas
 mod StepLemmas
+pub mod PatchLemmas
 mod EpochLemmas
 mod EpochToldLemmas
 pub mod StateLemmas

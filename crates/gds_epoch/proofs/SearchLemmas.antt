@@ -2,15 +2,19 @@
 use Rattle.std.proofs.Common.{◌≡◌, ℕ, zero, suc, ◌+◌, ◌-◌, ◌<◌, ◌≤◌, ◌≢◌, List, [], ◌∷◌, length, get_or}
 use Rattle.std.proofs.Common.{set, map, take, drop, ◌++◌, Some, None, Result, Ok, Err, IfOk, IfErr, refl, sym, ap}
 use Rattle.std.proofs.Common.{subst, arith, ◌∙◌}
+use Rattle.std.specs.Prelude.{true, false, filter, nat_le}
 use Rattle.std.specs.List.{insert}
-use Rattle.std.specs.List.Sorted.{IsSearchInRange, IsBinarySearchResult, IsNonDecreasingBy}
+use Rattle.std.specs.List.Sorted.{IsSearchInRange, IsBinarySearchResult, IsNonDecreasingBy, IsPartitionPoint}
+use Rattle.std.specs.List.Sorted.{IsPartitionedBy}
+use Rattle.std.proofs.lemmas.List.Sorted.{IsPartitionedBy-leb}
 use Rattle.std.specs.Ordering.{nat_cmp, ordering_index}
 use Rattle.std.proofs.lemmas.Cmp.{ranked}
-use Rattle.std.proofs.lemmas.List.{get_or-map, get_or_default, length-map, map-set, map-append, take-map, drop-map}
+use Rattle.std.proofs.lemmas.List.{get_or-map, get_or-take, length-take, map_push, get_or_default, length-map}
+use Rattle.std.proofs.lemmas.List.{map-set, map-append, take-map, drop-map}
 use Rattle.std.proofs.lemmas.List.Edits.{length-insert, get_or-insert_below, get_or-insert_at, get_or-insert_above}
 use Rattle.std.proofs.lemmas.Bool.Decides.{nat_tests}
 use Rattle.std.proofs.lemmas.Grind.{common_steps}
-use Rattle.gds_epoch.specs.Waiting.{IsRising, WaitingUnit, waiting_bytes, with_unit}
+use Rattle.gds_epoch.specs.Waiting.{IsRising, WaitingUnit, waiting_bytes, with_plan, with_unit}
 use Rattle.gds_epoch.specs.WaitingView.{IsAt, IsGapFor, number_at, unit_of, units_of}
 use Rattle.gds_epoch.specs.declared.waiting.UnitBytes.{UnitBytes}
 
@@ -251,3 +255,72 @@ module _ (items : List UnitBytes) (units : List WaitingUnit) (same : units_of it
         subst IsRising
         (sym (ap units_of is ∙ units_of-insert items i new ∙ ap (λ us. insert us i (unit_of new)) same))
         (rising_insert units rising_units (unit_of new) i gap)
+
+-- The front of rising units up to a number is what the units above it leave.
+filter_front : (items : List UnitBytes) (last k : ℕ)
+    → ((j : ℕ) (d : UnitBytes) → j < k → j < length items → nat_le (get_or items j d).unit last ≡ true)
+    → ((j : ℕ) (d : UnitBytes) → k ≤ j → j < length items → nat_le (get_or items j d).unit last ≡ false)
+    → units_of (take k items) ≡ filter (λ (w : WaitingUnit). nat_le w.unit last) (units_of items)
+filter_front [] last zero low high = refl
+filter_front [] last (suc k) low high = refl
+filter_front (x ∷ items) last zero low high =
+    rw (high 0 x (omega arith) (omega arith))
+    (filter_front items last zero (λ j d lt within. absurd (omega (arith, lt)))
+    (λ j d le within. high (suc j) d (omega arith) (omega (arith, within))))
+filter_front (x ∷ items) last (suc k) low high =
+    rw (low 0 x (omega arith) (omega arith))
+    (ap (λ us. unit_of x ∷ us)
+    (filter_front items last k (λ j d lt within. low (suc j) d (omega (arith, lt)) (omega (arith, within)))
+    (λ j d le within. high (suc j) d (omega (arith, le)) (omega (arith, within)))))
+
+-- One unit more of a plan.
+with_plan-push : (units plan : List WaitingUnit) (new : WaitingUnit)
+    → with_plan units (plan ++ new ∷ []) ≡ with_unit (with_plan units plan) new
+with_plan-push units [] new = refl
+with_plan-push units (x ∷ plan) new = with_plan-push (with_unit units x) plan new
+
+pub plan_more : (units now after : List WaitingUnit) (plan : List UnitBytes) (new : UnitBytes)
+    → now ≡ with_plan units (units_of plan) → after ≡ with_unit now (unit_of new)
+    → after ≡ with_plan units (units_of (plan ++ new ∷ []))
+plan_more units now after plan new so_far put =
+    put ∙ ap (λ us. with_unit us (unit_of new)) so_far
+    ∙ sym (ap (with_plan units) (map_push unit_of plan new) ∙ with_plan-push units (units_of plan) (unit_of new))
+
+-- The front up to a number is left, and rises.
+module _ (items : List UnitBytes) (units : List WaitingUnit) (same : units_of items ≡ units)
+    (rising : IsRising (units_of items)) (last k : ℕ) (left : List UnitBytes) (cut : left ≡ take k items) where
+  pub units_dropped : IsPartitionPoint (λ (x : UnitBytes). nat_le x.unit last ≡ true)
+      (λ (x : UnitBytes). nat_le x.unit last ≡ false) items k
+      → units_of left ≡ filter (λ (w : WaitingUnit). nat_le w.unit last) units
+  units_dropped point =
+      ap units_of cut
+      ∙ filter_front items last k (λ j d lt within. point.0 j d (omega arith) lt)
+      (λ j d le within. point.1 j d le within)
+      ∙ ap (filter (λ (w : WaitingUnit). nat_le w.unit last)) same
+
+  pub rising_dropped : IsRising (units_of left)
+  rising_dropped i j d less within =
+      let front : units_of left ≡ take k (units_of items) = ap units_of cut ∙ sym (take-map unit_of k items) in
+      let short : j < length (take k (units_of items)) = omega (arith, within, ap length front) in
+      let in_front : j < k = omega (arith, short, length-take k (units_of items)) in
+      let in_all : j < length (units_of items) = omega (arith, short, length-take k (units_of items)) in
+      let all = rising i j d less in_all in
+      let at : (m : ℕ) → m < k → get_or (units_of left) m d ≡ get_or (units_of items) m d =
+      λ m lt. ap (λ us. get_or us m d) front ∙ get_or-take k (units_of items) m d lt in
+      omega (
+        arith,
+        all,
+        ap (λ (w : WaitingUnit). w.unit) (at i (omega arith)),
+        ap (λ (w : WaitingUnit). w.unit) (at j in_front),
+      )
+
+-- Whether a unit's number is at most another falls along rising units.
+pub numbers_part : (items : List UnitBytes) → IsRising (units_of items) → (last : ℕ)
+    → IsPartitionedBy (λ (x : UnitBytes). nat_le x.unit last) items
+numbers_part items rising last =
+    IsPartitionedBy-leb (λ (x : UnitBytes). x.unit) items last (λ i j d le below.
+    let first : (get_or items i d).unit ≡ number_at (units_of items) i =
+    sym (number_read items rising 0 i d (omega arith)) in
+    let second : (get_or items j d).unit ≡ number_at (units_of items) j =
+    sym (number_read items rising 0 j d below) in
+    omega (arith, numbers_rise items rising 0 i j le below, first, second))

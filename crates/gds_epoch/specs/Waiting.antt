@@ -29,6 +29,11 @@ with_unit (first ∷ units) new =
     if nat_lt first.unit new.unit then first ∷ with_unit units new
     else (new ∷ (if first.unit == new.unit then units else first ∷ units))
 
+-- with the units of a plan, one after another
+abbrev pub with_plan : List WaitingUnit → List WaitingUnit → List WaitingUnit
+with_plan units [] = units
+with_plan units (new ∷ plan) = with_plan (with_unit units new) plan
+
 -- how many bytes a unit has in a file with blocks of this size, and where it begins
 abbrev pub size_of : ℕ → ℕ → ℕ
 size_of block_size unit = if unit == 0 then 8192 else block_size

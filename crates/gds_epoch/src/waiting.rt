@@ -1,6 +1,6 @@
-ghost use Rattle.std.specs.Prelude.{◌≡◌, ◌+◌, ◌<◌, ◌≤◌, ◌==◌, [], length, IfErr, IfOk, OnOk, vec_len};
+ghost use Rattle.std.specs.Prelude.{◌≡◌, ◌+◌, ◌<◌, ◌≤◌, ◌==◌, [], filter, length, nat_le, IfErr, IfOk, OnOk, vec_len};
 ghost use Rattle.std.specs.Option.{option_copied};
-ghost use Rattle.gds_epoch.specs.Waiting.{IsRising, waiting_bytes, with_unit};
+ghost use Rattle.gds_epoch.specs.Waiting.{IsRising, waiting_bytes, with_plan, with_unit};
 ghost use Rattle.std.specs.List.{insert};
 ghost use Rattle.std.specs.Vec.{vec_capacity};
 ghost use Rattle.gds_epoch.specs.WaitingView.{IsAt, IsGapFor, room_of, units_of};
@@ -91,6 +91,26 @@ impl Waiting {
             Ok(at) => self.units[at] = new,
             Err(at) => insert_reserved(&mut self.units, at, new),
         }
+    }
+
+    /// Puts the units of a plan, one after another. It takes no memory.
+    pub fn put_all_reserved(&mut self, plan: Vec<UnitBytes>)
+        requires { vec_len plan ≤ self.old.room }
+        ensures put { self.new.units ≡ with_plan self.old.units (units_of plan.items) }
+        ensures room { self.old.room ≤ self.new.room + vec_len plan }
+    {
+        for unit in plan {
+            self.put_reserved(unit);
+        }
+    }
+
+    /// Lets the units above this number go, as where a file ends with it. Their places stay reserved.
+    pub fn drop_above(&mut self, last: u32)
+        ensures dropped { self.new.units ≡ filter (λ waiting. nat_le waiting.unit last) self.old.units }
+        ensures room { self.old.room ≤ self.new.room }
+    {
+        let kept = self.units.partition_point(|waiting| waiting.unit <= last);
+        self.units.truncate(kept);
     }
 
     /// Lets all units go. Their places stay reserved.
