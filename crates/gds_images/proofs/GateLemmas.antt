@@ -8,9 +8,9 @@ use Rattle.std.proofs.lemmas.List.Elements.{All-append}
 use Rattle.gds_block.specs.Fields.{u64_at}
 use Rattle.gds_images.specs.declared.chain.Chain.{Chain}
 use Rattle.gds_images.specs.declared.chain.Place.{Place}
-use Rattle.gds_images.specs.Chain.{and_then, chain_behind, images_from, images_up_to}
+use Rattle.gds_images.specs.Chain.{LiesBefore, and_then, chain_behind, images_from, images_up_to}
 use Rattle.gds_images.proofs.AgreeLemmas.{Agree, byte_agrees, u64_agrees}
-use Rattle.gds_images.proofs.ImagesLemmas.{LiesBefore, images_agree, images_fuel, images_lie, images_whole}
+use Rattle.gds_images.proofs.ImagesLemmas.{images_agree, images_fuel, images_lie, images_whole}
 
 -- ---- One group more.
 
@@ -142,7 +142,7 @@ if_same : {A : Type 0} (t : Bool) (x y z : A) → (t ≡ false → y ≡ z) → 
 if_same true x y z same = refl
 if_same false x y z same = same refl
 
-then_same : {A B : Type 0} (r : Result A ℕ) (f g : A → Result B ℕ) → ((a : A) → r ≡ Ok a → f a ≡ g a)
+pub then_same : {A B : Type 0} (r : Result A ℕ) (f g : A → Result B ℕ) → ((a : A) → r ≡ Ok a → f a ≡ g a)
     → and_then r f ≡ and_then r g
 then_same (Ok a) f g same = same a refl
 then_same (Err at) f g same = refl

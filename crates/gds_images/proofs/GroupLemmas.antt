@@ -4,18 +4,21 @@ use Rattle.std.proofs.Common.{◌++◌, length, take, drop, slice_index, slice_s
 use Rattle.std.proofs.Common.{⊎_elim, arith, eqb, append_assoc, length-append, length-drop, drop-drop}
 use Rattle.std.specs.Prelude.{All}
 use Rattle.std.proofs.lemmas.Bool.{eq-eqb, ne_eqb}
-use Rattle.std.proofs.lemmas.List.{drop_at, drop-set-lt, get_or-set_same, get_or_at, length-set, take-append-drop, take-set}
+use Rattle.std.proofs.lemmas.List.{drop_at, drop-set-lt, get_or-set_same, get_or_at, length-set, take-append-drop}
+use Rattle.std.proofs.lemmas.List.{take-set}
 use Rattle.std.proofs.lemmas.List.{get_or-drop}
 use Rattle.std.proofs.lemmas.List.Elements.{All-head, All-tail}
 use Rattle.gds_block.specs.Fields.{u32_at, u64_at, u32_bytes, u64_bytes}
 use Rattle.gds_block.proofs.FieldLemmas.{length-u32_bytes, length-u64_bytes, u32_at-here, u64_at-here}
 use Rattle.gds_images.specs.declared.chain.Chain.{Chain}
 use Rattle.gds_images.specs.Chain.{and_then, chain_behind, chain_of, images_from, images_up_to, with_first}
-use Rattle.gds_images.specs.Group.{Image, gate_behind, group_bytes, image_bytes, images_bytes, images_place, places_from}
+use Rattle.gds_images.specs.Group.{Image, gate_behind, group_bytes, image_bytes, images_bytes, images_place}
+use Rattle.gds_images.specs.Group.{places_from}
 use Rattle.gds_images.specs.Laws.{FitsEpoch, OpensToGroup}
 use Rattle.gds_images.proofs.AgreeLemmas.{Agree-from}
 use Rattle.gds_images.proofs.ImagesLemmas.{IsGood, images_step}
-use Rattle.gds_images.proofs.ChainLemmas.{Begins, IsClosedChain, IsOpenChain, begins_agrees, behind_first, chain_ends, chain_of_cases, chain_opened, first_group, opened_upto}
+use Rattle.gds_images.proofs.ChainLemmas.{Begins, IsClosedChain, IsOpenChain, begins_agrees, behind_first}
+use Rattle.gds_images.proofs.ChainLemmas.{chain_ends, chain_of_cases, chain_opened, first_group, opened_upto}
 use Rattle.gds_images.proofs.GateLemmas.{IsGroup, chain_closes, chain_more, chain_step, ended}
 
 pub length-image_bytes : (image : Image) → length (image_bytes image) ≡ 12 + length image.bytes

@@ -8,7 +8,7 @@ use Rattle.std.proofs.lemmas.Bool.{not-false, or_parts}
 use Rattle.std.proofs.lemmas.List.Elements.{All-cons, All-nil}
 use Rattle.gds_block.specs.Fields.{u64_at}
 use Rattle.gds_images.specs.declared.chain.Place.{Place}
-use Rattle.gds_images.specs.Chain.{and_then, bad_field, image_at, image_length, images_up_to}
+use Rattle.gds_images.specs.Chain.{LiesBefore, and_then, bad_field, image_at, image_length, images_up_to}
 use Rattle.gds_images.specs.Chain.{unless, with_first}
 use Rattle.gds_images.proofs.AgreeLemmas.{Agree, u32_agrees, u64_agrees}
 
@@ -173,12 +173,6 @@ images_agree (suc n) (suc m) a b end epoch at left places agree within few enoug
     (images_cases n a epoch at left places ok)
 
 -- ---- What is known of the place of each image.
-
--- It has bytes, lies within the database of the epoch, and its bytes stand before a place in the file.
-pub record LiesBefore (end epoch : ℕ) (place : Place) : Type 0 where
-  pub some : 0 < place.len
-  pub within : place.at + place.len ≤ epoch
-  pub before : place.from + place.len ≤ end
 
 pub images_lie : (n : ℕ) (file : List ℕ) (epoch at left end : ℕ) (places : List Place) → at + left ≤ end
     → images_up_to n file epoch at left ≡ Ok places → All (LiesBefore end epoch) places

@@ -1,9 +1,12 @@
 pub mod AgreeLemmas
+pub mod BufferLemmas
 pub mod ChainLemmas
+pub mod FrontLemmas
 pub mod GateLemmas
 pub mod GroupLemmas
 pub mod ImagesLemmas
 pub mod LaidLemmas
+pub mod ReadingLemmas
 pub mod RestLemmas
 pub mod SameLemmas
 pub mod WrittenLemmas

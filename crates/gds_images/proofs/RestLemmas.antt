@@ -1,6 +1,7 @@
 -- What is recovered of files at rest.
 use Rattle.std.proofs.Common.{◌≡◌, ℕ, ◌<◌, ◌≤◌, List, [], length, take, Option, None, Some, Ok}
-use Rattle.std.proofs.Common.{refl, sym, ap, ◌∙◌, ⊎_elim, arith, lit≤, length-take, true, false, cond, leb, ltb, get_or-take}
+use Rattle.std.proofs.Common.{refl, sym, ap, ◌∙◌, ⊎_elim, arith, lit≤, length-take, true, false, cond, leb, ltb}
+use Rattle.std.proofs.Common.{get_or-take}
 use Rattle.std.specs.Prelude.{nat_eq, slice_index}
 use Rattle.std.specs.List.{starts_with}
 use Rattle.std.specs.Cmp.Lexicographic.{pointwise}
@@ -10,7 +11,8 @@ use Rattle.gds_header.specs.Fields.{file_length_of, image_length}
 use Rattle.gds_header.specs.Kinds.{ending_kind, unreadable}
 use Rattle.gds_header.specs.declared.kind.HeaderKind.{HeaderKind}
 use Rattle.gds_header.specs.declared.kind.HeaderKind.TheVariants.{ShortFile}
-use Rattle.gds_header.proofs.EndingLemmas.{ending_kind-short, ending_kind-readable, ending_kind-unreadable, fields_of-front}
+use Rattle.gds_header.proofs.EndingLemmas.{ending_kind-short, ending_kind-readable, ending_kind-unreadable}
+use Rattle.gds_header.proofs.EndingLemmas.{fields_of-front}
 use Rattle.gds_images.specs.Chain.{chain_of, first_gate, label}
 use Rattle.gds_images.specs.Laws.{RestIsFound}
 use Rattle.gds_images.specs.Outcome.{IsClosed, IsWhole}

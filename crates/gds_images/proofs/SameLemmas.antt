@@ -1,6 +1,7 @@
 -- To be the same is an equivalence: header and maps are equal, so both files say alike which blocks are new.
 use Rattle.std.proofs.Common.{◌≡◌, ℕ, ◌+◌, ◌-◌, ◌*◌, ◌/◌, ◌%◌, ◌<◌, ◌≤◌, Bool, false, List, length, take, drop}
-use Rattle.std.proofs.Common.{slice_index, refl, sym, ap, ◌∙◌, ⊎_elim, arith, leb, eqb, length-take, get_or-take, get_or-drop}
+use Rattle.std.proofs.Common.{slice_index, refl, sym, ap, ◌∙◌, ⊎_elim, arith, leb, eqb, length-take, get_or-take}
+use Rattle.std.proofs.Common.{get_or-drop}
 use Rattle.std.specs.Prelude.{◌&&◌, not}
 use Rattle.std.proofs.lemmas.Bool.{cases_lt, eq-eqb, lt-leb, and_left, and_right}
 use Rattle.std.proofs.lemmas.List.{get_or_past}

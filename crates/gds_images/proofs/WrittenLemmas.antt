@@ -1,5 +1,6 @@
 -- A file with some bytes written over it, byte by byte.
-use Rattle.std.proofs.Common.{◌≡◌, ℕ, ◌+◌, ◌-◌, ◌<◌, ◌≤◌, List, ◌++◌, length, take, drop, slice_index, arith, sym, ap, ◌∙◌}
+use Rattle.std.proofs.Common.{◌≡◌, ℕ, ◌+◌, ◌-◌, ◌<◌, ◌≤◌, List, ◌++◌, length, take, drop, slice_index, arith, sym}
+use Rattle.std.proofs.Common.{ap, ◌∙◌}
 use Rattle.std.proofs.Common.{length-take, length-drop, length-append, get_or-take, get_or-drop, append_assoc}
 use Rattle.std.proofs.lemmas.List.{get_or-append_right, get_or_append_left, drop-drop, take-append-drop}
 use Rattle.host_model.specs.Disk.{written}

@@ -1,5 +1,6 @@
 -- The file of before images, read from its front: a label, gates, and behind each open gate a group of images.
-use Rattle.std.specs.Prelude.{ℕ, zero, suc, ◌+◌, ◌-◌, ◌==◌, Bool, not, ◌||◌, nat_eq, nat_lt, nat_le, if◌then◌else◌}
+use Rattle.std.specs.Prelude.{ℕ, zero, suc, ◌+◌, ◌-◌, ◌<◌, ◌≤◌, ◌==◌, All, Bool, not, ◌||◌, nat_eq, nat_lt, nat_le}
+use Rattle.std.specs.Prelude.{if◌then◌else◌}
 use Rattle.std.specs.Prelude.{List, [], ◌∷◌, ◌++◌, length, take, drop, slice_index, codes, Option, None, Some}
 use Rattle.std.specs.Prelude.{Result, Ok, Err}
 use Rattle.std.specs.List.{starts_with}
@@ -91,3 +92,16 @@ chain_of file db_length =
     else (if not (is_whole file 17 8) || nat_lt db_length (u64_at file 17) then Err 17
     else and_then (images_from file (u64_at file 17) first_images (u64_at file 9))
     (λ images. chain_behind (length file) file (u64_at file 17) images (first_images + u64_at file 9))))))
+
+-- An image that can be laid back: it has bytes, which belong within the database of the epoch and stand before a place
+-- in the file of images.
+pub record LiesBefore (end epoch : ℕ) (place : Place) : Type 0 where
+  pub some : 0 < place.len
+  pub within : place.at + place.len ≤ epoch
+  pub before : place.from + place.len ≤ end
+
+-- All images of the chain can be laid back over a database of so many bytes.
+pub record CanBeLaid (n : ℕ) (chain : Chain) : Type 0 where
+  pub long : chain.epoch_length ≤ n
+  pub gate : first_gate ≤ chain.next_gate
+  pub images : All (LiesBefore chain.next_gate chain.epoch_length) chain.images

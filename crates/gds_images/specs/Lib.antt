@@ -1,5 +1,6 @@
 pub mod Chain
 pub mod Group
+pub mod Reading
 pub mod Recovered
 pub mod Same
 pub mod Outcome

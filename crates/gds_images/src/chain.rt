@@ -1,6 +1,6 @@
-ghost use Rattle.std.specs.Prelude.{◌≡◌, []};
+ghost use Rattle.std.specs.Prelude.{◌≡◌, [], ◌∷◌, ◌++◌, OnOk, OnErr};
 
-use std::alloc::Global;
+use std::alloc::{AllocError, Global};
 use std::marker::Model;
 
 /// Where the bytes of an image belong, and where they stand.
@@ -37,6 +37,15 @@ impl Places {
         Places {
             places: Vec::new(alloc),
         }
+    }
+
+    /// One image more, behind the others.
+    pub(crate) fn push(&mut self, place: Place) -> Result<(), AllocError>
+        ensures ok { OnOk result (self.new ≡ self.old ++ place ∷ []) }
+        ensures err { OnErr result (self.new ≡ self.old) }
+    {
+        self.places.push(place)?;
+        Ok(())
     }
 
     /// The images in their order.

@@ -6,8 +6,10 @@
 
 mod chain;
 mod error;
+mod fields;
 mod group;
 mod laws;
+mod reading;
 
 pub use chain::{Chain, Place, Places};
 pub use error::ImagesError;
@@ -16,3 +18,4 @@ pub use laws::{
     ends_at_its_gate, lays_back_itself, lays_over_outside, needs_its_epoch, opens_to_group,
     rest_is_found, same_is_equivalence,
 };
+pub use reading::open_chain;
