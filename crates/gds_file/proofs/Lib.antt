@@ -1,0 +1,9 @@
+pub mod FrameLemmas
+pub mod UseLemmas
+pub mod ItemLemmas
+pub mod SameLemmas
+pub mod RightMapLemmas
+pub mod ReshapeLemmas
+pub mod ExchangeLemmas
+pub mod FileLemmas
+pub mod StampLemmas

@@ -19,6 +19,6 @@ pub record Reshapes (before after : List ℕ) (old new : List ℕ) : Type 0 wher
   pub limits : KeepsLimits (fields_of before) (fields_of after)
   pub stays : (n : ℕ) → n % 512 ≢ 0 → IsTrue (is_busy before n) → has_block old n ≡ false
       → block_of after n ≡ block_of before n
-  pub taken : (n : ℕ) → IsTrue (has_block new n) → has_block old n ≡ false → is_busy before n ≡ false
+  pub taken : (n : ℕ) → n % 512 ≢ 0 → IsTrue (has_block new n) → has_block old n ≡ false → is_busy before n ≡ false
   pub busy : (n : ℕ) → n < (fields_of after).total → n % 512 ≢ 0
       → is_busy after n ≡ (has_block new n || (is_busy before n && not (has_block old n)))

@@ -153,7 +153,7 @@ fields_of-header_bytes h fit =
     (ap (take 256) master ∙ take_at h.master _ 256 fit.master)
 
 -- The header of a database within its limits is read.
-limits_tested : (h : Header) → IsWithinLimits h
+pub limits_tested : (h : Header) → IsWithinLimits h
     → ((h.block_size == 0 || not (h.block_size % 512 == 0)) ≡ false) × (nat_lt 65024 h.block_size ≡ false)
     × ((h.total == 0) ≡ false) × (keeps_limits h ≡ true)
 limits_tested h limits = (

@@ -8,3 +8,4 @@ pub mod NumberLemmas
 pub mod KeyLemmas
 pub mod SinkLemmas
 pub mod UnitLemmas
+pub mod KeyPartLemmas

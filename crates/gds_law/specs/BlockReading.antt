@@ -6,7 +6,7 @@ use Rattle.gds_block.specs.Block.{level_of, used_of}
 use Rattle.gds_block.specs.Record.{Record}
 use Rattle.gds_block.specs.Record as records
 use Rattle.gds_header.specs.declared.header.Header.{Header}
-use Rattle.m_key.specs.KeyEnd.{key_len}
+use Rattle.m_key.specs.KeyEnd.{key_within}
 use Rattle.gds_law.specs.Visit.{TreeRole, directory, global, Visit}
 
 -- a block as it is read: the file's header, what is due at the block, its level byte and its used count
@@ -41,7 +41,7 @@ full_of s = records.full_of s.previous s.record_
 -- how many of the full bytes are the key, which ends with their first two neighbouring zero bytes and has no more bytes
 -- than the header allows, where there is such a key
 abbrev pub key_end : BlockReading → PlacedRecord → Option ℕ
-key_end b s = key_len (take b.header.key_max (full_of s))
+key_end b s = key_within b.header.key_max (full_of s)
 
 abbrev pub key_of : BlockReading → PlacedRecord → List ℕ
 key_of b s = take (unwrap_or (key_end b s) 0) (full_of s)

@@ -9,28 +9,39 @@ pub length-record_bytes : (previous : List ℕ) (i : Item) → length (record_by
 unfolding record_bytes
 length-record_bytes previous i = simp (length-append, length-drop, length-u16_bytes) (omega arith)
 
-pub length-records_bytes : (previous : List ℕ) (is : List Item) → length (records_bytes previous is) ≡ records_size previous is
+pub length-records_bytes : (previous : List ℕ) (is : List Item)
+    → length (records_bytes previous is) ≡ records_size previous is
 length-records_bytes previous [] = refl
 length-records_bytes previous (i ∷ is) =
-    omega (arith, length-append (record_bytes previous i) (records_bytes i.key is), length-record_bytes previous i, length-records_bytes i.key is)
+    omega (
+      arith,
+      length-append (record_bytes previous i) (records_bytes i.key is),
+      length-record_bytes previous i,
+      length-records_bytes i.key is,
+    )
 
-pub records_size-append : (previous : List ℕ) (xs ys : List Item) → records_size previous (xs ++ ys) ≡ records_size previous xs + records_size (key_behind previous xs) ys
+pub records_size-append : (previous : List ℕ) (xs ys : List Item)
+    → records_size previous (xs ++ ys) ≡ records_size previous xs + records_size (key_behind previous xs) ys
 records_size-append previous [] ys = omega arith
 records_size-append previous (i ∷ xs) ys = omega (arith, records_size-append i.key xs ys)
 
-pub key_behind-append : (previous : List ℕ) (xs ys : List Item) → key_behind previous (xs ++ ys) ≡ key_behind (key_behind previous xs) ys
+pub key_behind-append : (previous : List ℕ) (xs ys : List Item)
+    → key_behind previous (xs ++ ys) ≡ key_behind (key_behind previous xs) ys
 key_behind-append previous [] ys = refl
 key_behind-append previous (i ∷ xs) ys = key_behind-append i.key xs ys
 
 -- A key before the records lets the first of them leave bytes out, no more than the key has.
-pub records_size-behind : (previous : List ℕ) (is : List Item) → (records_size previous is ≤ records_size [] is) × (records_size [] is ≤ records_size previous is + length previous)
+pub records_size-behind : (previous : List ℕ) (is : List Item)
+    → (records_size previous is ≤ records_size [] is)
+    × (records_size [] is ≤ records_size previous is + length previous)
 records_size-behind previous [] = (omega arith, omega arith)
 records_size-behind previous (i ∷ is) =
     let le = shared-le previous i.key in
     (omega arith, omega arith)
 
 -- Records have room for the last of their keys, but for bytes that the key before them has.
-pub length-key_behind : (previous : List ℕ) (is : List Item) → length (key_behind previous is) ≤ length previous + records_size previous is
+pub length-key_behind : (previous : List ℕ) (is : List Item)
+    → length (key_behind previous is) ≤ length previous + records_size previous is
 length-key_behind previous [] = omega arith
 length-key_behind previous (i ∷ is) =
     let le = shared-le previous i.key in

@@ -15,7 +15,8 @@ runs places items = runs_from 0 places items
 abbrev pub AreFullRuns : ℕ → List (List Item) → Type 0
 AreFullRuns limit [] = ⊥
 AreFullRuns limit (run ∷ []) = packed_size run ≤ limit
-AreFullRuns limit (run ∷ next ∷ rest) = (packed_size run ≤ limit) × (limit < packed_size (run ++ take 1 next)) × AreFullRuns limit (next ∷ rest)
+AreFullRuns limit (run ∷ next ∷ rest) =
+    (packed_size run ≤ limit) × (limit < packed_size (run ++ take 1 next)) × AreFullRuns limit (next ∷ rest)
 
 -- The list can be cut somehow into at most so many runs that each fit in so many bytes.
 abbrev pub CanBeCut : ℕ → ℕ → List Item → Type 0

@@ -13,7 +13,8 @@ record_size previous i = 4 + (length i.key - shared previous i.key) + length i.r
 -- that record: its size, the count of leading bytes that the keys share, the rest of the key, and what follows
 unfoldable pub record_bytes : List ℕ → Item → List ℕ
 record_bytes previous i =
-    u16_bytes (record_size previous i) ++ u16_bytes (shared previous i.key) ++ drop (shared previous i.key) i.key ++ i.rest
+    u16_bytes (record_size previous i) ++ u16_bytes (shared previous i.key) ++ drop (shared previous i.key) i.key
+    ++ i.rest
 
 -- the records of items behind a key, and how many bytes they have
 abbrev pub records_bytes : List ℕ → List Item → List ℕ
@@ -41,7 +42,8 @@ packed_record offset previous i =
 -- the records of items behind a key, one after the other from an offset on
 abbrev pub packed_records : ℕ → List ℕ → List Item → List Record
 packed_records offset previous [] = []
-packed_records offset previous (i ∷ is) = packed_record offset previous i ∷ packed_records (offset + record_size previous i) i.key is
+packed_records offset previous (i ∷ is) =
+    packed_record offset previous i ∷ packed_records (offset + record_size previous i) i.key is
 
 -- the key that an item behind these, which stand behind a key, has before it
 abbrev pub key_behind : List ℕ → List Item → List ℕ

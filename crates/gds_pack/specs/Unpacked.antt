@@ -1,14 +1,14 @@
 -- What the bytes of a block say of its entries.
-use Rattle.std.specs.Prelude.{ℕ, ◌≡◌, ◌≤◌, ◌+◌, Bool, ◌&&◌, ◌||◌, ◌==◌, nat_lt, nat_le, if◌then◌else◌, List, [], ◌∷◌, ◌++◌, length, take, drop, Option, Some, None, option_map, option_and_then}
+use Rattle.std.specs.Prelude.{ℕ, ◌≡◌, ◌≤◌, ◌+◌, Bool, ◌&&◌, ◌||◌, ◌==◌, nat_lt, if◌then◌else◌, List, [], ◌∷◌}
+use Rattle.std.specs.Prelude.{◌++◌, length, take, drop, Option, Some, None, option_map, option_and_then}
 use Rattle.gds_block.specs.Block.{level_of, used_of}
 use Rattle.gds_block.specs.Record.{Record, full_of, records_of}
 use Rattle.gds_block.specs.Item.{Item}
-use Rattle.m_key.specs.KeyEnd.{key_len}
+use Rattle.m_key.specs.KeyEnd.{key_within}
 
 -- the item whose key and rest have these bytes together, where the key has an end and at most 255 bytes
 abbrev pub item_of : List ℕ → Option Item
-item_of full =
-    option_and_then (λ n. if nat_le n 255 then Some (record { key = take n full; rest = drop n full }) else None) (key_len full)
+item_of full = option_map (λ n. record { key = take n full; rest = drop n full }) (key_within 255 full)
 
 -- A count is below the length of the key before it. It is 0 where no key stands before it.
 abbrev pub is_count : List ℕ → ℕ → Bool
@@ -29,7 +29,8 @@ star_item r = if (length r.body == 4) && (r.count == 0) then Some (record { key 
 -- what the records of a level-0 block say behind a key, unless one of them can't be read
 abbrev pub leaf_items : List ℕ → List Record → Option (List Item)
 leaf_items previous [] = Some []
-leaf_items previous (r ∷ rs) = option_and_then (λ i. option_map (λ is. i ∷ is) (leaf_items i.key rs)) (leaf_item previous r)
+leaf_items previous (r ∷ rs) =
+    option_and_then (λ i. option_map (λ is. i ∷ is) (leaf_items i.key rs)) (leaf_item previous r)
 
 -- what those of an index block say, of which the last is the star
 abbrev pub index_items : List ℕ → List Record → Option (List Item)

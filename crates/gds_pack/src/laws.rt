@@ -46,6 +46,7 @@ pub fn size_with_one_more()
 /// Where entries are put in a list, or in place of some of it, and these, those before them and those
 /// behind them fit in a block each, three runs suffice.
 pub fn three_runs()
-    ensures { (limit : ℕ) (a put b : List Item) → packed_size a ≤ limit → packed_size put ≤ limit → packed_size b ≤ limit
+    ensures { (limit : ℕ) (a put b : List Item) → packed_size a ≤ limit → packed_size put ≤ limit
+        → packed_size b ≤ limit
         → CanBeCut 3 limit (a ++ put ++ b) }
 {}

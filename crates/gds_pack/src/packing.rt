@@ -2,7 +2,8 @@ ghost use Rattle.std.specs.Prelude.{◌≡◌, ◌+◌, ◌-◌, ◌^◌, ◌≤
 ghost use Rattle.gds_block.specs.Block.{IsBlock, used_of};
 ghost use Rattle.gds_block.specs.Record.{records_of};
 ghost use Rattle.gds_pack.specs.Packable.{ArePackable};
-ghost use Rattle.gds_pack.specs.Packed.{packed_size, record_size, record_bytes, records_bytes, block_bytes, packed_records};
+ghost use Rattle.gds_pack.specs.Packed.{packed_size, record_size, record_bytes, records_bytes, block_bytes};
+ghost use Rattle.gds_pack.specs.Packed.{packed_records};
 ghost use Rattle.gds_pack.specs.Entry.{item, items};
 ghost use Rattle.gds_pack.specs.Unpacked.{entries_of};
 

@@ -9,7 +9,7 @@ ghost use Rattle.gds_pack.specs.Unpacked.{entries_of, is_count, leaf_item, index
 
 use crate::entry::Entry;
 use gds_block::{BlockView, RecordView};
-use m_key::{Key, end_in, ends_in_zero, join_key};
+use m_key::{Key, end_within, join_key};
 use std::alloc::{AllocError, Global};
 
 /// The entries of a block, or `None` where its records don't reach its used count, or one of them has no lawful count
@@ -142,11 +142,7 @@ fn key_part(previous: &[u8], view: RecordView<'_>) -> Option<usize>
     if !is_count(previous, count) {
         return None;
     }
-    let len = end_in(ends_in_zero(&previous[..count]), view.body)?;
-    if count + len > 255 {
-        return None;
-    }
-    Some(len)
+    end_within(&previous[..count], view.body, 255)
 }
 
 fn is_count(previous: &[u8], count: usize) -> bool

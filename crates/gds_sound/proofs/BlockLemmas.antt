@@ -30,6 +30,7 @@ use Rattle.gds_law.specs.declared.kind.FaultKind.{FaultKind}
 use Rattle.gds_law.specs.declared.kind.FaultKind.TheVariants.{WrongLevel, RestNotPointer, PointerNotPositive}
 use Rattle.gds_law.specs.declared.kind.FaultKind.TheVariants.{PointerTooLarge, PointerToMap}
 use Rattle.gds_law.proofs.MembershipLemmas.{IsIn, in_either}
+use Rattle.gds_law.proofs.RankLemmas.{is_asked}
 
 -- ---- empty lists
 
@@ -74,7 +75,7 @@ pub record IsCleanRecord (b : BlockReading) (s : PlacedRecord) : Type 0 where
   pub none : (kind : FaultKind) → IsIn record_kinds kind → holds b s kind ≡ false
   pub goes_on : is_ended b s ≡ false
 
-clean_record : (b : BlockReading) (s : PlacedRecord) → kinds_of b s ≡ [] → IsCleanRecord b s
+pub clean_record : (b : BlockReading) (s : PlacedRecord) → kinds_of b s ≡ [] → IsCleanRecord b s
 unfolding kinds_of is_ended
 clean_record b s h = record {
   none = filter_nil (holds b s) record_kinds (through_nil ends (filter (holds b s) record_kinds) h);
@@ -101,9 +102,6 @@ pub record IsCleanBlock (b : BlockReading) (bytes : List ℕ) : Type 0 where
   pub head : list_any ends (kinds_of_head b bytes) ≡ false
   pub level : is_wrong_level b.visit.level b.level ≡ false
   pub records : CleanRecords b [] (records_of bytes)
-
-is_asked : IsIn head_kinds WrongLevel
-is_asked = inr (inr (inr (inr (inr (inl refl)))))
 
 head_level : (b : BlockReading) (bytes : List ℕ) → kinds_of_head b bytes ≡ []
     → is_wrong_level b.visit.level b.level ≡ false
@@ -145,7 +143,7 @@ pointer_sound p total size multiple h k l =
       | inr e ↦ and_from (nat_lt 0 p && nat_lt p total) (not multiple) both (not_from_false multiple e)
     ]
 
-asked_not_positive : IsIn record_kinds PointerNotPositive
+pub asked_not_positive : IsIn record_kinds PointerNotPositive
 asked_not_positive =
     inr (inr (inr (inr (inr (inr (inr (inr (inr
     (inr (inr (inr (inr (inr (inr (inr (inr (inr (inr (inl refl)))))))))))))))))))
@@ -234,7 +232,7 @@ no_pointer true due four x y l d = absurd (cc)
 no_pointer false true four x y l d = absurd (cc)
 no_pointer false false four x y l d = refl
 
-value_children : (b : BlockReading) (previous : List ℕ) (rs : List Record) → (b.level == 0) ≡ true → points b ≡ false
+pub value_children : (b : BlockReading) (previous : List ℕ) (rs : List Record) → (b.level == 0) ≡ true → points b ≡ false
     → children_from b previous rs ≡ []
 value_children b previous [] z d = refl
 value_children b previous (r ∷ rs) z d =

@@ -1,7 +1,8 @@
 -- How often a block is at the end of the paths that lead on from a visit: as often as it is in the sound trees there.
 use Rattle.std.proofs.Common.{◌≡◌, ℕ, zero, suc, ◌+◌, ◌<◌, ◌≤◌, ◌==◌, if◌then◌else◌, List, [], ◌∷◌, ◌++◌, map, flat_map}
-use Rattle.std.proofs.Common.{Option, None, Some, inl, inr, refl, sym, ap, subst, ◌∙◌, arith, append_assoc}
+use Rattle.std.proofs.Common.{Option, None, Some, inl, inr, refl, sym, ap, subst, ◌∙◌, arith}
 use Rattle.std.specs.Option.{option_map_or}
+use Rattle.std.proofs.lemmas.Grind.{flat_map-append}
 use Rattle.gds_block.specs.Item.{Item}
 use Rattle.gds_law.specs.Visit.{TreeRole, directory, global, Visit, Child}
 use Rattle.gds_law.specs.Path.{children_at}
@@ -32,12 +33,6 @@ flat_map_map : {A B C : Type 0} (f : B → List C) (g : A → B) (xs : List A)
 flat_map_map f g [] = refl
 flat_map_map f g (x ∷ xs) = ap (λ l. f (g x) ++ l) (flat_map_map f g xs)
 
-pub flat_map_append : {A B : Type 0} (f : A → List B) (xs ys : List A)
-    → flat_map f (xs ++ ys) ≡ flat_map f xs ++ flat_map f ys
-flat_map_append f [] ys = refl
-flat_map_append f (x ∷ xs) ys = ap (λ l. f x ++ l) (flat_map_append f xs ys)
-    ∙ sym (append_assoc (f x) (flat_map f xs) (flat_map f ys))
-
 count_each : {A : Type 0} (x : ℕ) (f g : A → List ℕ) (xs : List A)
     → ((a : A) → IsIn xs a → count x (f a) ≡ count x (g a)) → count x (flat_map f xs) ≡ count x (flat_map g xs)
 count_each x f g [] h = refl
@@ -62,7 +57,7 @@ under image (global name) items = []
 under_append : (image : List ℕ) (x : ℕ) (role : TreeRole) (xs ys : List Item)
     → count x (under image role (xs ++ ys)) ≡ count x (under image role xs) + count x (under image role ys)
 under_append image x directory xs ys =
-    ap (count x) (flat_map_append (entry_blocks image) xs ys)
+    ap (count x) (flat_map-append (entry_blocks image) xs ys)
     ∙ count_append x (flat_map (entry_blocks image) xs) (flat_map (entry_blocks image) ys)
 under_append image x (global name) xs ys = omega arith
 

@@ -20,14 +20,15 @@ use Rattle.gds_law.specs.Maps.{is_used}
 use Rattle.gds_sound.specs.Sound.{is_in_use}
 use Rattle.gds_law.proofs.MembershipLemmas.{IsIn, in_from_Contains, Contains-from_in}
 use Rattle.gds_law.proofs.RisingLemmas.{not_below_itself, below_from_above}
-use Rattle.gds_law.proofs.PathLemmas.{path_total, path_exact, some_if, some_then}
+use Rattle.gds_law.proofs.PathLemmas.{path_total, path_exact, not_below_nil, some_if, some_then}
 use Rattle.gds_sound.proofs.BlockLemmas.{nil_parts, map_nil, reading_at, kinds_at}
 use Rattle.gds_sound.proofs.CountLemmas.{count, all_blocks}
 use Rattle.gds_sound.proofs.PathLemmas.{EndsApart, counted_ends, end_counted, counted_any, any_counted}
 
 -- ---- tests of some element
 
-pub any_in : {A : Type 0} (test : A → Bool) (xs : List A) → list_any test xs ≡ true → (x : A) × IsIn xs x × (test x ≡ true)
+pub any_in : {A : Type 0} (test : A → Bool) (xs : List A) → list_any test xs ≡ true
+    → (x : A) × IsIn xs x × (test x ≡ true)
 any_in test [] h = absurd (cc)
 any_in {A} test (x ∷ xs) h =
     elim (or_cases (test x) (list_any test xs) h) [
@@ -113,10 +114,6 @@ kept_from_reached image kept reached a r h =
     g.longer)
 
 -- and then no two of them end in one block
-not_below_nil : (p : Steps) → path_cmp p [] ≡ Less → ⊥
-not_below_nil [] h = cc
-not_below_nil (s ∷ p) h = cc
-
 not_twice : (image : List ℕ) (kept : List Steps) → AreKept image kept → (p q : Steps) (u w : Visit) → Contains kept p
     → Contains kept q
     → visit_at image p ≡ Some u → visit_at image q ≡ Some w → u.block ≡ w.block → path_cmp p q ≡ Less → ⊥

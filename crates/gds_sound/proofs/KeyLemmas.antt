@@ -1,19 +1,18 @@
 -- What is known of each key in a sound tree: it ends as a key does, has bytes of the file, and no fault of its name and
 -- subscripts.
-use Rattle.std.proofs.Common.{◌≡◌, ℕ, zero, suc, ◌+◌, ◌<◌, ◌≤◌, ◌==◌, true, false, not, ◌&&◌, List, [], ◌∷◌, ◌++◌}
+use Rattle.std.proofs.Common.{◌≡◌, ℕ, zero, suc, ◌+◌, ◌<◌, ◌==◌, true, false, not, ◌&&◌, List, [], ◌∷◌, ◌++◌}
 use Rattle.std.proofs.Common.{length, take, drop, Option, None, Some, inl, inr, refl, sym, ap, subst, ◌∙◌, arith}
 use Rattle.std.specs.Prelude.{⊤, nat_lt, nat_le, is_none, unwrap_or}
 use Rattle.std.specs.List.{AllByRecursion}
 use Rattle.std.specs.Option.{option_map_or, option_or}
 use Rattle.std.proofs.lemmas.Bool.{eq-eqb, ltb-false, leb-false, true≢false, cond-false, cond_both}
-use Rattle.std.proofs.lemmas.List.{length-take, length-take-le}
 use Rattle.gds_header.specs.Fields.{fields_of, place_of, block_of}
 use Rattle.gds_block.specs.Record.{Record, records_of, records_up_to, first_record, is_well_sized, bytes_left}
 use Rattle.gds_block.specs.Record as block
 use Rattle.gds_block.specs.Block.{used_of}
 use Rattle.gds_block.specs.Item.{Item}
 use Rattle.m_key.specs.KeyEnd.{key_len}
-use Rattle.m_key.proofs.KeyEndLemmas.{key_len-end_in, end_in-take_same, key_len-within}
+use Rattle.m_key.proofs.KeyEndLemmas.{key_within-whole}
 use Rattle.gds_law.specs.Kinds.{record_kinds}
 use Rattle.gds_law.specs.Visit.{TreeRole, Visit}
 use Rattle.m_key.specs.Node.{is_name}
@@ -37,28 +36,10 @@ use Rattle.gds_sound.proofs.ValueLemmas.{forest_item}
 
 -- ---- its end
 
-some_end : (o : Option ℕ) (most n : ℕ) → (is_none o && nat_lt most n) ≡ false → (is_none o && nat_le n most) ≡ false
+pub some_end : (o : Option ℕ) (most n : ℕ) → (is_none o && nat_lt most n) ≡ false → (is_none o && nat_le n most) ≡ false
     → (m : ℕ) × (o ≡ Some m)
 some_end (Some m) most n h k = (m, refl)
 some_end None most n h k = absurd (omega (arith, ltb-false most n h, leb-false n most k))
-
-take_twice : {A : Type 0} (n m : ℕ) (xs : List A) → n ≤ m → take n (take m xs) ≡ take n xs
-take_twice zero m xs h = refl
-take_twice (suc n) zero xs h = absurd (omega arith)
-take_twice (suc n) (suc m) [] h = refl
-take_twice (suc n) (suc m) (x ∷ xs) h = ap (λ l. x ∷ l) (take_twice n m xs (omega arith))
-
-ends_whole : (most n : ℕ) (full : List ℕ) → key_len (take most full) ≡ Some n
-    → key_len (take n full) ≡ Some (length (take n full))
-ends_whole most n full h =
-    let within = key_len-within (take most full) n h in
-    let less : n ≤ most = omega (arith, within, length-take most full) in
-    let same : take n (take most full) ≡ take n full = take_twice n most full less in
-    let front : key_len (take n (take most full)) ≡ Some n =
-    key_len-end_in (take n (take most full))
-    ∙ end_in-take_same (take most full) false n (sym (key_len-end_in (take most full)) ∙ h) in
-    let size : length (take n full) ≡ n = ap length (sym same) ∙ length-take-le n (take most full) within in
-    ap key_len (sym same) ∙ front ∙ ap (λ k. Some k) (sym size)
 
 asked_long : IsIn record_kinds KeyTooLong
 asked_long = inr (inr (inr (inr (inl refl))))
@@ -66,14 +47,14 @@ asked_long = inr (inr (inr (inr (inl refl))))
 asked_end : IsIn record_kinds KeyWithoutEnd
 asked_end = inr (inr (inr (inr (inr (inl refl)))))
 
-key_whole : (b : BlockReading) (s : PlacedRecord) → IsCleanRecord b s → is_last b s ≡ false
+pub key_whole : (b : BlockReading) (s : PlacedRecord) → IsCleanRecord b s → is_last b s ≡ false
     → key_len (key_of b s) ≡ Some (length (key_of b s))
 key_whole b s c l =
     let e = some_end (key_end b s) b.header.key_max (length (full_of s))
     (sym (cond-false (is_last b s) _ _ l) ∙ c.none KeyTooLong asked_long) (sym (cond-false (is_last b s) _ _ l)
     ∙ c.none KeyWithoutEnd asked_end) in
     let same : key_of b s ≡ take e.0 (full_of s) = ap (λ o. take (unwrap_or o 0) (full_of s)) e.1 in
-    subst (λ key. key_len key ≡ Some (length key)) (sym same) (ends_whole b.header.key_max e.0 (full_of s) e.1)
+    subst (λ key. key_len key ≡ Some (length key)) (sym same) (key_within-whole b.header.key_max (full_of s) e.0 e.1)
 
 -- ---- its name and subscripts
 
@@ -157,7 +138,7 @@ no_kind : (o : Option FaultKind) → IsKeyKind o
 no_kind None k h = refl
 no_kind (Some kind) k h = absurd (true≢false (sym (same_kind kind k) ∙ h kind k))
 
-key_right : (b : BlockReading) (s : PlacedRecord) → IsCleanRecord b s → is_last b s ≡ false
+pub key_right : (b : BlockReading) (s : PlacedRecord) → IsCleanRecord b s → is_last b s ≡ false
     → key_fault (key_of b s) ≡ None
 key_right b s c l =
     no_kind (key_fault (key_of b s)) (key_kind (key_of b s))

@@ -10,3 +10,4 @@ pub mod OrderLemmas
 pub mod KeyLemmas
 pub mod PairLemmas
 pub mod OneMapLemmas
+pub mod HeaderLemmas

@@ -25,7 +25,7 @@ use Rattle.gds_sound.proofs.KeptLemmas.{flat_nil, nil_flat}
 
 -- ---- numbers one after another
 
-in_range : (n a k : ℕ) → a ≤ k → k < a + n → IsIn (range_with_len a n) k
+pub in_range : (n a k : ℕ) → a ≤ k → k < a + n → IsIn (range_with_len a n) k
 in_range zero a k low high = absurd (omega arith)
 in_range (suc n) a k low high =
     elim (cases_eq a k) [
@@ -33,7 +33,7 @@ in_range (suc n) a k low high =
       | inr m ↦ inr (in_range n (a + 1) k (omega arith) (omega arith))
     ]
 
-range_in : (n a k : ℕ) → IsIn (range_with_len a n) k → k < a + n
+pub range_in : (n a k : ℕ) → IsIn (range_with_len a n) k → k < a + n
 range_in zero a k i = absurd i
 range_in (suc n) a k (inl e) = omega arith
 range_in (suc n) a k (inr i) = omega (arith, range_in n (a + 1) k i)

@@ -128,7 +128,7 @@ asked_above = inr (inr (inr (inr (inr (inr (inr (inr (inr (inr (inr (inr (inr (i
 asked_below : IsIn record_kinds KeyBelowBound
 asked_below = inr (inr (inr (inr (inr (inr (inr (inr (inr (inr (inr (inr (inr (inr (inr (inr (inl refl))))))))))))))))
 
-key_rises : (b : BlockReading) (s : PlacedRecord) → IsCleanRecord b s → is_last b s ≡ false
+pub key_rises : (b : BlockReading) (s : PlacedRecord) → IsCleanRecord b s → is_last b s ≡ false
     → cmp s.previous (key_of b s) ≡ Less
 key_rises b s c l =
     less_from (cmp s.previous (key_of b s)) (sym (cond-false (is_last b s) _ _ l) ∙ c.none KeyOutOfOrder asked_order)

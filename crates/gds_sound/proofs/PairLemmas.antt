@@ -1,5 +1,5 @@
 -- The items of the globals of a sound file, one after another, are the entries of the map for which the file stands.
-use Rattle.std.proofs.Common.{◌≡◌, ℕ, zero, suc, ◌+◌, ◌-◌, ◌<◌, ◌==◌, Bool, true, false, not, ◌&&◌, cond, T, List, []}
+use Rattle.std.proofs.Common.{◌≡◌, ℕ, zero, suc, ◌+◌, ◌-◌, ◌<◌, ◌==◌, Bool, true, false, ◌&&◌, cond, T, List, []}
 use Rattle.std.proofs.Common.{◌∷◌, ◌++◌, length, take, drop, map, flat_map, Contains, None, Some, Ordering, Less, Equal}
 use Rattle.std.proofs.Common.{Greater, is_eq, is_lt, inl, inr, refl, sym, ap, ap₂, subst, ◌∙◌, arith}
 use Rattle.std.specs.Prelude.{nat_lt, is_none}
@@ -8,16 +8,15 @@ use Rattle.std.specs.Cmp.{IsTotalOrder}
 use Rattle.std.specs.Ordering.{ordering_then}
 use Rattle.std.specs.FinMap.{get, entries, entries_sorted, get-entries}
 use Rattle.std.specs.FinMap.Entries.{find, is_sorted, below_all}
-use Rattle.std.proofs.lemmas.Bool.{not-false, cond-true, cond-false, ltb-false, eq-eqb, ne_eqb}
+use Rattle.std.proofs.lemmas.Bool.{not-false, cond-true, cond-false, ltb-false, eq-eqb}
 use Rattle.std.proofs.lemmas.Cmp.{tied_itself, tied_back, on_total}
 use Rattle.std.proofs.lemmas.List.{length-append}
 use Rattle.std.proofs.lemmas.List.Elements.{recursion_from_All, All-from_recursion}
-use Rattle.std.proofs.lemmas.List.Sums.{take_while-cons}
 use Rattle.std.proofs.lemmas.Slice.Eq.{bytes_eq-Decides}
 use Rattle.m_key.specs.Node.{Node, NodeSubscript, IsNode}
 use Rattle.m_key.specs.Key.{key_bytes, ended, subscript_bytes}
 use Rattle.m_key.specs.Globals.{Globals, Place, place_cmp}
-use Rattle.m_key.proofs.ZeroLemmas.{NoZero, cmp-ended, cmp-same}
+use Rattle.m_key.proofs.ZeroLemmas.{cmp-ended, cmp-same}
 use Rattle.m_key.proofs.KeyLemmas as keys
 use Rattle.m_key.proofs.NumberLemmas.{numbers}
 use Rattle.m_key.proofs.PlaceLemmas.{place_total, place_same}
@@ -35,7 +34,9 @@ use Rattle.gds_law.proofs.RisingLemmas.{Rising}
 use Rattle.gds_law.proofs.KeyLemmas.{key_test}
 use Rattle.gds_law.proofs.KeptLemmas.{some_kept}
 use Rattle.gds_sound.proofs.BlockLemmas.{level_at}
-use Rattle.gds_sound.proofs.TreeLemmas.{in_map_from}
+use Rattle.gds_law.proofs.MembershipLemmas.{in_map_from}
+use Rattle.m_number.proofs.OrderingLemmas.{Less-is_lt}
+use Rattle.m_key.proofs.KeyPartLemmas.{name_part-ended}
 use Rattle.gds_sound.proofs.KeptLemmas.{kept_from_apart}
 use Rattle.gds_sound.proofs.SoundLemmas.{sound, faultless, all_rooted, sound_apart}
 use Rattle.gds_sound.proofs.ValueLemmas.{in_under, values_to, values_from}
@@ -53,19 +54,12 @@ pub record IsNodeKey (key : List ℕ) : Type 0 where
 abbrev pub KeysAreNodes : Type 0
 KeysAreNodes = (key : List ℕ) → key_len key ≡ Some (length key) → AreBytes key → key_fault key ≡ None → IsNodeKey key
 
-name_of : (name rest : List ℕ) → NoZero name → name_part (name ++ 0 ∷ rest) ≡ name
-name_of [] rest z = take_while-cons (λ b. not (b == 0)) 0 rest
-name_of (x ∷ xs) rest z =
-    take_while-cons (λ b. not (b == 0)) x (xs ++ 0 ∷ rest)
-    ∙ cond-true (not (x == 0)) _ _ (ap not (ne_eqb x 0 (λ e. omega (arith, z.0))))
-    ∙ ap (λ l. x ∷ l) (name_of xs rest z.1)
-
 -- what stands behind the name and its 0
 abbrev behind : Node → List ℕ
 behind n = flat_map ended n.subscripts ++ 0 ∷ []
 
 key_name : (n : Node) → IsNode n → name_part (key_bytes n) ≡ n.name
-key_name n r = ap name_part (keys.key-is n) ∙ name_of n.name (behind n) (keys.NoZero-name numbers n r)
+key_name n r = ap name_part (keys.key-is n) ∙ name_part-ended n.name (behind n) (keys.NoZero-name numbers n r)
 
 keys_cmp : (a b : Node) → IsNode a → IsNode b
     → cmp (key_bytes a) (key_bytes b) ≡ ordering_then (cmp a.name b.name) (cmp (behind a) (behind b))
@@ -245,11 +239,6 @@ t_true : (b : Bool) → T b → b ≡ true
 t_true true h = refl
 t_true false h = absurd h
 
-lt_less : (o : Ordering) → is_lt o ≡ true → o ≡ Less
-lt_less Less h = refl
-lt_less Equal h = absurd (cc)
-lt_less Greater h = absurd (cc)
-
 pub place_key : (p q : Place) → place_cmp p q ≡ cmp (key_bytes p.node) (key_bytes q.node)
 place_key p q = sym (keys.order numbers p.node q.node p.right q.right)
 
@@ -264,7 +253,8 @@ module _ {K X : Type 0} (R : K → K → Ordering) where
   below_each : (x : K) (es : List (K × X)) → below_all R x es ≡ true → (d : K × X) → IsIn es d → R x d.0 ≡ Less
   below_each x [] h d i = absurd i
   below_each x (e ∷ es) h d (inl same) =
-      subst (λ (w : K × X). R x w.0 ≡ Less) same (lt_less (R x e.0) (and_true (is_lt (R x e.0)) (below_all R x es) h).0)
+      subst (λ (w : K × X). R x w.0 ≡ Less) same
+      (Less-is_lt (R x e.0) (and_true (is_lt (R x e.0)) (below_all R x es) h).0)
   below_each x (e ∷ es) h d (inr i) = below_each x es (and_true (is_lt (R x e.0)) (below_all R x es) h).1 d i
 
   rising_entries : (es : List (K × X)) → is_sorted R es ≡ true → Rising entry_cmp es
@@ -344,11 +334,11 @@ same_rising {A} c total (x ∷ xs) (y ∷ ys) r s h k =
 -- ---- the law
 
 module _ (image : List ℕ) (tree : Tree) (globals : List Tree) (m : Globals) (s : IsSound image tree globals) where
-  value_in : (kept : List Steps) → AreKept image kept → (item : Item) → Contains (flat_map (values_at image) kept) item
-      → IsIn (flat_map (λ t. t.items) globals) item
+  pub value_in : (kept : List Steps) → AreKept image kept → (item : Item)
+      → Contains (flat_map (values_at image) kept) item → IsIn (flat_map (λ t. t.items) globals) item
   value_in kept a item c = values_to image kept globals (all_rooted image tree globals s) a s.global_trees item c
 
-  in_value : (kept : List Steps) → AreKept image kept → (item : Item) → IsIn (flat_map (λ t. t.items) globals) item
+  pub in_value : (kept : List Steps) → AreKept image kept → (item : Item) → IsIn (flat_map (λ t. t.items) globals) item
       → Contains (flat_map (values_at image) kept) item
   in_value kept a item i =
       values_from image kept tree globals (kept_from_apart image kept a (sound_apart image tree globals s))

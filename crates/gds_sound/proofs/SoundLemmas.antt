@@ -1,12 +1,13 @@
 -- A file has no fault exactly where it is sound.
-use Rattle.std.proofs.Common.{◌≡◌, ℕ, zero, suc, List, [], ◌∷◌, ◌++◌, map, flat_map, find, Contains, Option, None, Some}
+use Rattle.std.proofs.Common.{◌≡◌, ℕ, zero, suc, List, [], ◌∷◌, ◌++◌, map, flat_map, Contains, Option, None, Some}
 use Rattle.std.proofs.Common.{option_map, option_and_then, inl, inr, refl, sym, ap, subst, ◌∙◌, arith}
 use Rattle.std.specs.Prelude.{⊤}
 use Rattle.std.specs.List.{AllZip}
 use Rattle.std.specs.Option.{option_map_or}
 use Rattle.std.proofs.lemmas.Bool.{cond-true}
+use Rattle.gds_header.proofs.EndingLemmas.{ending_kind-none}
 use Rattle.gds_header.specs.declared.kind.HeaderKind.{HeaderKind}
-use Rattle.gds_header.specs.Kinds.{ends, header_faults, ending_kind}
+use Rattle.gds_header.specs.Kinds.{header_faults, ending_kind}
 use Rattle.gds_block.specs.Item.{Item}
 use Rattle.gds_law.specs.Kinds.{fault_kind_of}
 use Rattle.gds_law.specs.Visit.{TreeRole, directory, global, Visit, Child, directory_root}
@@ -19,7 +20,8 @@ use Rattle.gds_sound.specs.Sound.{IsRightMap, IsSound}
 use Rattle.gds_law.proofs.MembershipLemmas.{IsIn, in_from_Contains, Contains-from_in, in_either, in_map}
 use Rattle.gds_law.proofs.KeptLemmas.{some_kept, some_reached}
 use Rattle.gds_sound.proofs.BlockLemmas.{nil_parts, map_nil, kinds_at, level_at, leaf_visits, index_role, level_due}
-use Rattle.gds_sound.proofs.TreeLemmas.{root_only, faultless_from, in_map_from, RootsSound, IsRooted, rooted_path}
+use Rattle.gds_law.proofs.MembershipLemmas.{in_map_from}
+use Rattle.gds_sound.proofs.TreeLemmas.{root_only, faultless_from, RootsSound, IsRooted, rooted_path}
 use Rattle.gds_sound.proofs.TreeLemmas.{rooted_clean}
 use Rattle.gds_sound.proofs.CountLemmas.{count, count_append, all_blocks, entry_blocks, directory_counts}
 use Rattle.gds_sound.proofs.PathLemmas.{step_leads, counts_from_distinct, distinct_from_counts, EndsApart}
@@ -112,7 +114,7 @@ build_root : (image : List ℕ) (v : Visit) → IsClean image v → IsBuilt imag
 build_root image v h = build image (level_at image v) v h refl
 
 -- the trees of entries
-abbrev AreTrees : List ℕ → List Item → List Tree → Type 0
+abbrev pub AreTrees : List ℕ → List Item → List Tree → Type 0
 AreTrees image items globals = AllZip (λ entry tree. tree_at image (root_of entry) ≡ Some tree) items globals
 
 build_globals : (image : List ℕ) (items : List Item) → RootsClean image directory items
@@ -143,10 +145,10 @@ tree_blocks image (entry ∷ items) (t ∷ ts) h =
     λ i. first i ++ tree_blocks image items ts h.1 i
 
 -- Each block is as often in the trees as at the ends of paths.
-abbrev blocks_of : Tree → List Tree → List ℕ
+abbrev pub blocks_of : Tree → List Tree → List ℕ
 blocks_of tree globals = tree.blocks ++ flat_map (λ t. t.blocks) globals
 
-all_counted : (image : List ℕ) (tree : Tree) (globals : List Tree) → tree_at image directory_root ≡ Some tree
+pub all_counted : (image : List ℕ) (tree : Tree) (globals : List Tree) → tree_at image directory_root ≡ Some tree
     → AreTrees image tree.items globals
     → (x : ℕ) → count x (all_blocks image 16 directory_root) ≡ count x (blocks_of tree globals)
 all_counted image tree globals h zip x =
@@ -161,10 +163,6 @@ all_counted image tree globals h zip x =
 
 -- ---- from no faults
 
-no_ending : (image : List ℕ) → header_faults image ≡ [] → ending_kind image ≡ None
-unfolding ending_kind
-no_ending image h = ap (find ends) h
-
 none_read : (image : List ℕ) → AreFaults image [] → AreFaultsRead image []
 none_read image h = by (ending_kind image) refl h
   where
@@ -172,7 +170,7 @@ none_read image h = by (ending_kind image) refl h
     by None e k = k
     by (Some kind) e k =
         let none = map_nil (λ kind. fault_of 0 (fault_kind_of kind)) (header_faults image) (sym k) in
-        absurd (cc (no_ending image none, e))
+        absurd (cc (ending_kind-none image none, e))
 
 record AllNone (image : List ℕ) (kept reached : List Steps) : Type 0 where
   header : header_faults image ≡ []
@@ -290,7 +288,7 @@ faultless image tree globals s =
     let maps : map_faults image (is_used image k.0) ≡ [] = ap (map_faults image) used
     ∙ right_maps image (is_in_use (blocks_of tree globals)) s.maps in
     let count = right_count image s.count in
-    subst (λ o. AreFaultsAfter o image []) (sym (no_ending image s.header)) (record {
+    subst (λ o. AreFaultsAfter o image []) (sym (ending_kind-none image s.header)) (record {
       kept = k.0;
       reached = r.0;
       are_kept = k.1;

@@ -10,6 +10,7 @@ use Rattle.gds_law.specs.Visit.{TreeRole, directory, global, Visit, Child}
 use Rattle.gds_law.specs.Path.{Steps, children_at, child_at, visit_from}
 use Rattle.gds_sound.specs.Sound.{Tree, joined, forest_of, is_faultless, items_at, sound_tree, tree_at, root_of}
 use Rattle.gds_law.proofs.MembershipLemmas.{IsIn, in_left, in_right, in_map}
+use Rattle.gds_law.proofs.MembershipLemmas.{in_map_from}
 use Rattle.gds_law.proofs.PathLemmas.{found, some_if, some_then}
 use Rattle.gds_sound.proofs.BlockLemmas.{kinds_at, level_at, leaf_visits, value_leaf, index_role}
 
@@ -140,11 +141,6 @@ pub record IsRooted (image : List ℕ) (v : Visit) : Type 0 where
 
 pub rooted_clean : (image : List ℕ) (v : Visit) → IsRooted image v → kinds_at image v ≡ []
 rooted_clean image v r = tree_clean image (level_at image v) v r.tree r.sound
-
-pub in_map_from : {A B : Type 0} (f : A → B) (xs : List A) (y : B) → IsIn (map f xs) y → (x : A) × IsIn xs x × (f x ≡ y)
-in_map_from f [] y i = absurd i
-in_map_from f (x ∷ xs) y (inl e) = (x, inl refl, e)
-in_map_from f (x ∷ xs) y (inr i) = let r = in_map_from f xs y i in (r.0, inr r.1, r.2)
 
 rooted_root : (image : List ℕ) (v : Visit) (entry : Item) (t : Tree) → root_of entry ≡ v
     → tree_at image (root_of entry) ≡ Some t → IsRooted image v

@@ -15,8 +15,9 @@ use Rattle.gds_law.proofs.MembershipLemmas.{IsIn, in_from_Contains, Contains-fro
 use Rattle.gds_law.proofs.MembershipLemmas.{in_map, in_flat_map}
 use Rattle.gds_sound.proofs.BlockLemmas.{reading_at, level_at, leaf_visits, value_leaf, index_role}
 use Rattle.gds_law.proofs.PathLemmas.{some_if, some_then}
+use Rattle.gds_law.proofs.MembershipLemmas.{in_map_from}
 use Rattle.gds_sound.proofs.TreeLemmas.{IsLeaf, leaf_parts, index_parts, own_level, forest_parts, each_tree}
-use Rattle.gds_sound.proofs.TreeLemmas.{in_map_from, IsRooted, rooted_child, leads_through}
+use Rattle.gds_sound.proofs.TreeLemmas.{IsRooted, rooted_child, leads_through}
 use Rattle.gds_sound.proofs.PathLemmas.{step_leads}
 use Rattle.gds_sound.proofs.KeptLemmas.{AllKept, kept_leads}
 

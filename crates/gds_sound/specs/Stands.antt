@@ -1,8 +1,7 @@
 -- What a file without faults stands for.
-use Rattle.std.specs.Prelude.{◌≡◌, ◌↔◌, ℕ, List, [], ◌∷◌, flat_map, Contains, Option, Some, if◌then◌else◌}
+use Rattle.std.specs.Prelude.{◌≡◌, ◌↔◌, ℕ, List, [], ◌∷◌, flat_map, Contains, Some, if◌then◌else◌}
 use Rattle.std.specs.Option.{option_map_or}
 use Rattle.std.specs.FinMap.{get}
-use Rattle.m_key.specs.Node.{Node}
 use Rattle.m_key.specs.Key.{key_bytes}
 use Rattle.m_key.specs.Globals.{Globals, Place}
 use Rattle.gds_block.specs.Record.{Record, records_of}

@@ -1,7 +1,7 @@
 -- Where anything may be left, it may have been left before, and no step have been made.
-use Rattle.std.proofs.Common.{ℕ, List, refl, sym, ap, append-nil, arith}
+use Rattle.std.proofs.Common.{ℕ, List, refl, sym, ap, append-nil}
 use Rattle.host_model.specs.declared.host.FileNo.{FileNo}
-use Rattle.host_model.specs.Files.{Contents, file_of}
+use Rattle.host_model.specs.Files.{file_of}
 use Rattle.host_model.specs.Disk.{Changes, Cut, Follows, SaysSome, Torn}
 use Rattle.host_model.proofs.FileLemmas.{Cut-refl, Torn-refl}
 use Rattle.host_file.specs.System.{any_left}

@@ -9,6 +9,7 @@ ghost use Rattle.host_file.specs.System.{told_by, moment_of, failures_of, left_b
 use super::place::Place;
 use host_model::{FileNo, Host, HostFailed};
 use std::alloc::{AllocError, Global};
+use std::fs::File;
 use std::io;
 use std::marker::Model;
 use std::rt::Files;
@@ -18,17 +19,17 @@ use std::rt::Files;
 /// The file of before images has the same path with `.bi` at its end. A missing file has the length 0. A path
 /// that leads to what is no regular file, as a directory, fails each read.
 #[derive(Drop)]
-pub struct FileHost<'r, R: Files + Print> {
+pub struct FileHost<'r, R: Files<File = File> + Print> {
     rt: &'r R,
-    db: Place<R::File>,
-    images: Place<R::File>,
+    db: Place,
+    images: Place,
     clock: u64,
     read_failures: u64,
     write_failures: u64,
     say_failures: u64,
 }
 
-impl<'r, R: Files + Print> Model for FileHost<'r, R> {
+impl<'r, R: Files<File = File> + Print> Model for FileHost<'r, R> {
     ghost use Rattle.std.specs.Prelude.{string_bytes};
     ghost use Rattle.host_file.specs.System.{SystemHost};
 
@@ -46,7 +47,7 @@ impl<'r, R: Files + Print> Model for FileHost<'r, R> {
     } };
 }
 
-impl<'r, R: Files + Print> FileHost<'r, R> {
+impl<'r, R: Files<File = File> + Print> FileHost<'r, R> {
     /// A host over the files at this path. No file is opened yet.
     pub fn new(rt: &'r R, alloc: Global, path: &str) -> Result<FileHost<'r, R>, AllocError>
         ensures { IfOk result (λ host. host ≡ new_host path.now) }
@@ -97,7 +98,7 @@ impl<'r, R: Files + Print> FileHost<'r, R> {
     }
 }
 
-impl<'r, R: Files + Print> Host for FileHost<'r, R> {
+impl<'r, R: Files<File = File> + Print> Host for FileHost<'r, R> {
     ghost told = { told_by };
 
     ghost moment = { moment_of };

@@ -10,5 +10,5 @@ mod place;
 mod stdin;
 
 pub use host::FileHost;
-pub use place::read_full;
+pub use place::read_full_at;
 pub use stdin::StdinSource;

@@ -6,13 +6,13 @@ use Rattle.std.proofs.lemmas.List.{append-nil}
 use Rattle.host_model.specs.declared.host.FileNo.{FileNo}
 use Rattle.host_model.specs.declared.host.FileNo.TheVariants.{Db, Images}
 use Rattle.host_model.specs.Failures.{Rose, counted}
-use Rattle.host_model.specs.Files.{Contents, Says, file_of, saying}
+use Rattle.host_model.specs.Files.{Contents, Says, file_of, saying, with_file}
 use Rattle.host_model.specs.Disk.{Changes, Cut, Cuts, Elapses, Follows, SaysSome, Settles, Stays, Torn, Writes}
 use Rattle.host_model.specs.Disk.{during, written}
 use Rattle.host_mem.specs.declared.call.Call.{Call}
 use Rattle.host_mem.specs.History.{LeftSince, NumberedTo, State, apply, replayed, shown, start}
 use Rattle.host_mem.specs.Log.{Log, with_step}
-use Rattle.host_mem.specs.Memory.{Called, IsNumbered, Memory, contents_of, left_since, only_done, state_of, with_file}
+use Rattle.host_mem.specs.Memory.{Called, IsNumbered, Memory, contents_of, left_since, only_done, state_of}
 use Rattle.host_mem.specs.Step.{Step, Write, Cut as cuts, Sync, Say, number_of}
 use Rattle.host_mem.proofs.StateLemmas.{NumberedTo-later, NumberedTo-push, cut_follows, idle_elapses, idle_stays}
 use Rattle.host_mem.proofs.StateLemmas.{last_only, other_than_db, other_than_images, plain_elapses, replayed-push}

@@ -1,13 +1,12 @@
 -- The laws of what a crash may leave, of any steps.
-use Rattle.std.specs.Prelude.{◌≡◌, ◌⊎◌, ℕ, ◌+◌, ◌-◌, ◌<◌, ◌≤◌, min, max, Bool, true, false, ◌||◌, List, [], ◌∷◌, ◌++◌}
-use Rattle.std.specs.Prelude.{length, take, drop, slice_index, Some, refl}
-use Rattle.std.proofs.Common.{arith, inl, inr, ap, sym, ◌∙◌, subst, ⊎_elim, length-take, length-drop, length-append}
-use Rattle.std.proofs.Common.{get_or-take, get_or-drop}
-use Rattle.std.proofs.lemmas.List.{get_or-append_right, get_or_append_left}
+use Rattle.std.specs.Prelude.{◌≡◌, ◌⊎◌, ℕ, ◌+◌, ◌<◌, ◌≤◌, max, Bool, true, false, ◌||◌, List, [], ◌∷◌, ◌++◌}
+use Rattle.std.specs.Prelude.{length, Some, refl}
+use Rattle.std.proofs.Common.{arith, inl, inr, ap, sym, ◌∙◌, subst, ⊎_elim, length-take}
+use Rattle.std.proofs.Common.{get_or-take}
 use Rattle.std.proofs.lemmas.List.Folds.{list_any-append}
 use Rattle.std.proofs.lemmas.Bool.Decides.{nat_tests}
 use Rattle.host_model.specs.declared.host.FileNo.TheVariants.{Db, Images}
-use Rattle.host_model.specs.Disk.{written}
+use Rattle.host_model.proofs.FileLemmas.{length-written, written-before, written-behind}
 use Rattle.host_model.specs.Files.{Contents}
 use Rattle.host_mem.specs.declared.step.Range.{Range}
 use Rattle.host_mem.specs.Drive.{Drive, Leaves, farthest, is_covered, is_within, settled, shortened, wrote}
@@ -42,26 +41,6 @@ not_covered i ranges range e =
 
 pub outside : (i : ℕ) (range : Range) → is_within i range ≡ false → (i < range.at) ⊎ (range.at + range.len ≤ i)
 outside i range e = grind (arith, nat_tests)
-
-pub length-written : (at : ℕ) (bytes file : List ℕ)
-    → length (written at bytes file) ≡ min at (length file) + length bytes + (length file - (at + length bytes))
-length-written at bytes file = simp (length-append, length-take, length-drop)
-
-pub written-before : (at : ℕ) (bytes file : List ℕ) (i : ℕ) → i < length file → i < at
-    → slice_index (written at bytes file) i ≡ slice_index file i
-written-before at bytes file i within lt =
-    let short : i < length (take at file) = simp length-take (omega arith) in
-    let longer : i < length (take at file ++ bytes) = simp (length-append, length-take) (omega arith) in
-    get_or_append_left (take at file ++ bytes) (drop (at + length bytes) file) 0 i longer
-    ∙ get_or_append_left (take at file) bytes 0 i short ∙ get_or-take at file i 0 lt
-
-pub written-behind : (at : ℕ) (bytes file : List ℕ) (i : ℕ) → i < length file → at + length bytes ≤ i
-    → slice_index (written at bytes file) i ≡ slice_index file i
-written-behind at bytes file i within le =
-    let front : length (take at file ++ bytes) ≡ at + length bytes = simp (length-append, length-take) (omega arith) in
-    let same : at + length bytes + (i - (at + length bytes)) ≡ i = omega arith in
-    get_or-append_right (take at file ++ bytes) (drop (at + length bytes) file) (at + length bytes) i 0 front le
-    ∙ get_or-drop (at + length bytes) file (i - (at + length bytes)) 0 ∙ ap (λ k. slice_index file k) same
 
 pub settled-IsSound : (file : List ℕ) → IsSound (settled file)
 settled-IsSound file =

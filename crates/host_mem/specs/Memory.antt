@@ -1,7 +1,6 @@
 -- What a memory host holds, and what its calls leave of it.
-use Rattle.std.specs.Prelude.{◌≡◌, ◌⊎◌, ℕ, ◌-◌, min, Bool, true, false, ◌&&◌, List, [], ◌++◌, length, take, drop}
+use Rattle.std.specs.Prelude.{◌≡◌, ℕ, ◌-◌, min, Bool, true, false, ◌&&◌, List, [], ◌++◌, length, take, drop}
 use Rattle.std.specs.Prelude.{Option, None, Some, Result, is_ok, if◌then◌else◌}
-use Rattle.host_model.specs.declared.host.FileNo.{FileNo}
 use Rattle.host_model.specs.declared.host.FileNo.TheVariants.{Db, Images}
 use Rattle.host_model.specs.Files.{Contents}
 use Rattle.host_model.specs.Failures.{Failures, counted}
@@ -36,11 +35,6 @@ new_memory db images = memory_of (record { db = db; images = images; said = [] }
 -- both files on their disks now, and what was said
 abbrev pub state_of : Memory → State
 state_of memory = replayed (start memory.first) memory.log.steps
-
--- with other bytes in one file
-abbrev pub with_file : FileNo → List ℕ → Contents → Contents
-with_file Db bytes c = record c { db = bytes }
-with_file Images bytes c = record c { images = bytes }
 
 -- what a read gives of both files, and what was said
 abbrev pub contents_of : Memory → Contents

@@ -1,11 +1,11 @@
 ghost use Rattle.std.specs.Prelude.{◌≡◌, ◌-◌, ◌<◌, ◌≤◌, ◌++◌, min, length, take, drop, All, None, Some, is_ok};
 ghost use Rattle.std.specs.Prelude.{if◌then◌else◌, IsTrue, IfOk, OnOk, OnErr};
 ghost use Rattle.host_model.specs.Failures.{NeverFell, counted};
-ghost use Rattle.host_model.specs.Files.{AreBytes, file_of, saying};
+ghost use Rattle.host_model.specs.Files.{AreBytes, file_of, saying, with_file};
 ghost use Rattle.host_model.specs.Disk.{written};
 ghost use Rattle.host_mem.specs.History.{start};
 ghost use Rattle.host_mem.specs.Inside.{held, seen};
-ghost use Rattle.host_mem.specs.Memory.{Called, filled, memory_of, failed_by, IsLook, only_done, with_file};
+ghost use Rattle.host_mem.specs.Memory.{Called, filled, memory_of, failed_by, IsLook, only_done};
 ghost use Rattle.host_mem.specs.Log.{Logged};
 ghost use Rattle.host_mem.specs.Replay.{state_seen};
 ghost use Rattle.host_mem.specs.Step.{Cut, Say, Sync, Write};

@@ -5,7 +5,7 @@ use Rattle.host_model.specs.Files.{Contents}
 use Rattle.host_model.specs.Disk.{Changes, Cut, Elapses, Follows, SaysSome, Torn, during}
 use Rattle.host_model.specs.Failures.{Failures}
 use Rattle.host_model.specs.Frames.{ChangedNothing, WasCalled}
-use Rattle.host_model.specs.Moments.{EachLeft, LeavesBy, LeavesOnly, LeavesTheSame}
+use Rattle.host_model.specs.Moments.{EachLeft, EachSince, LeavesBy, LeavesOnly, LeavesTheSame}
 use Rattle.host_model.proofs.FileLemmas.{Changes-refl, Cut-refl, SaysSome-refl, Torn-refl}
 
 module _ {H : Type 0} (moment : H → ℕ) (left_since : H → ℕ → Contents → Type 0) where
@@ -42,6 +42,12 @@ module _ {H : Type 0} (moment : H → ℕ) (left_since : H → ℕ → Contents 
     each = λ c left. so c (kept.each c left);
     before = λ t c le left. ⊎_elim inl (λ p. inr (so c p)) (kept.before t c le left);
   }
+
+  -- the moments since an earlier one, and those of a stretch of time behind them
+  pub since_more : (t : ℕ) (old new : H) (P : Contents → Type 0)
+      → t ≤ moment old → EachSince moment left_since old t P → LeavesOnly moment left_since old new P
+      → EachSince moment left_since new t P
+  since_more t old new P le since more c left = ⊎_elim (since c) (λ p. p) (more.before t c le left)
 
   -- a host that crashes treat as before
   pub LeavesTheSame-refl : (host : H) → LeavesTheSame moment left_since host host
@@ -117,6 +123,26 @@ module _ {H : Type 0} (moment : H → ℕ) (left_since : H → ℕ → Contents 
   by_saying counts bytes old new called =
       by_call (SaysSome bytes) old new (during (SaysSome bytes) (left_since old (moment old))) called.time
       (SaysSome-refl bytes) (λ c step. step)
+
+  -- no call, and a stretch of time in which crashes find no difference
+  pub by_none : (step : Contents → Contents → Type 0) (host : H)
+      → ((c : Contents) → step c c) → LeavesBy moment left_since step host host
+  by_none step host same =
+      no_call host (during step (left_since host (moment host))) (λ c left. (c, left, same c))
+
+  pub by_same : (step : Contents → Contents → Type 0) (old new : H)
+      → ((c : Contents) → step c c) → LeavesTheSame moment left_since old new
+      → LeavesBy moment left_since step old new
+  by_same step old new same stays =
+      same_only old new (during step (left_since old (moment old))) stays (λ c left. (c, left, same c))
+
+  -- a step that promises less
+  pub by_weaker : (R S : Contents → Contents → Type 0) (old new : H)
+      → ((x y : Contents) → R x y → S x y) → LeavesBy moment left_since R old new
+      → LeavesBy moment left_since S old new
+  by_weaker R S old new so by =
+      weaker old new (during R (left_since old (moment old))) (during S (left_since old (moment old)))
+      (λ c is. (is.0, is.1, so is.0 c is.2)) by
 
   -- a call that changed nothing
   pub by_kept : (contents : H → Option Contents) (counts : H → Failures) (step : Contents → Contents → Type 0)

@@ -8,6 +8,10 @@ module _ {H : Type 0} (moment : H → ℕ) (left_since : H → ℕ → Contents 
   abbrev pub EachLeft : H → (Contents → Type 0) → Type 0
   EachLeft host Q = (c : Contents) → left_since host (moment host) c → Q c
 
+  -- What a crash at that moment or since might have left has P.
+  abbrev pub EachSince : H → ℕ → (Contents → Type 0) → Type 0
+  EachSince host t P = (c : Contents) → left_since host t c → P c
+
   -- What a crash at any moment from old to new leaves has P.
   pub record LeavesOnly (old new : H) (P : Contents → Type 0) : Type 0 where
     pub later : moment old ≤ moment new

@@ -4,16 +4,10 @@ use Rattle.std.proofs.Common.{inr, refl, sym, ◌∙◌, ap, arith}
 use Rattle.std.specs.Prelude.{◌||◌, ◌&&◌, slice_index}
 use Rattle.std.specs.Int.{bit_at}
 use lib.Bits.{bit_and, bit_or}
-use Rattle.std.proofs.lemmas.Bool.{agree_below, agree_below_at, and_parts, cases_eq, eq-eqb, eqb-true, ne_eqb, ltb-true}
+use Rattle.std.proofs.lemmas.Bool.{and_parts, cases_eq, eq-eqb, eqb-true, ne_eqb, ltb-true}
+use Rattle.gds_bitmap.proofs.PairLemmas.{passes_below, passes_at}
 use Rattle.integ_walk.specs.BlockSet.{has_block}
 use Rattle.integ.specs.GroupMap.{in_use}
-
--- a test passes at each number below n
-abbrev passes_below : (ℕ → Bool) → ℕ → Bool
-passes_below test n = agree_below test (λ _. true) n
-
-passes_at : (test : ℕ → Bool) (n k : ℕ) → passes_below test n ≡ true → k < n → test k ≡ true
-passes_at test n k h l = agree_below_at test (λ _. true) n k h l
 
 -- ---- the half of a byte
 

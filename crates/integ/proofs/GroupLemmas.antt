@@ -1,6 +1,6 @@
 -- The faults of the pairs of a group, place by place, and how many of its blocks are free.
 use Rattle.std.proofs.Common.{ℕ, zero, suc, ◌≡◌, ◌+◌, ◌-◌, ◌*◌, ◌/◌, ◌%◌, ◌<◌, ◌≤◌, Bool, true, false, eqb, List}
-use Rattle.std.proofs.Common.{[], ◌∷◌, ◌++◌, length, refl, sym, ◌∙◌, ap, arith, append_assoc, add-zero}
+use Rattle.std.proofs.Common.{[], ◌∷◌, ◌++◌, length, refl, sym, ◌∙◌, ap, arith, add-zero}
 use Rattle.std.specs.Prelude.{flat_map, map, filter, min, nat_lt, slice_index, ◌&&◌, if◌then◌else◌, Option}
 use Rattle.std.specs.Option.{option_to_list}
 use Rattle.std.specs.List.{range_with_len}
@@ -15,6 +15,7 @@ use Rattle.gds_law.specs.declared.kind.FaultKind.{FaultKind}
 use Rattle.gds_law.specs.declared.kind.FaultKind.TheVariants.{BadVersion, TransactionTooNew, MapUsedTooSmall}
 use Rattle.gds_law.specs.declared.kind.FaultKind.TheVariants.{MapUsedTooLarge, MapLevel, GroupMarkedFree}
 use Rattle.gds_law.specs.declared.kind.FaultKind.TheVariants.{GroupMarkedFull}
+use Rattle.std.proofs.lemmas.Grind.{flat_map-append}
 use Rattle.integ.specs.Standing.{standing}
 use Rattle.integ.proofs.StandingLemmas.{standing-filter}
 use Rattle.integ.specs.GroupMap.{GroupMap, in_use, free_count, kinds_of_pair, kinds_at, faults_at, faults_in}
@@ -32,12 +33,6 @@ range-add a (suc m) n =
     let place : (a + 1) + m ≡ a + suc m = omega arith in
     ap (range_with_len a) more
     ∙ ap (λ xs. a ∷ xs) (range-add (a + 1) m n ∙ ap (λ b. range_with_len (a + 1) m ++ range_with_len b n) place)
-
-flat_map-append : {A B : Type 0} (f : A → List B) (xs ys : List A)
-    → flat_map f (xs ++ ys) ≡ flat_map f xs ++ flat_map f ys
-flat_map-append f [] ys = refl
-flat_map-append f (x ∷ xs) ys = ap (λ l. f x ++ l) (flat_map-append f xs ys)
-    ∙ sym (append_assoc (f x) (flat_map f xs) (flat_map f ys))
 
 module _ {B : Type 0} (f : ℕ → List B) where
   flat-none : (n a : ℕ) → ((k : ℕ) → a ≤ k → k < a + n → f k ≡ []) → flat_map f (range_with_len a n) ≡ []

@@ -1,19 +1,17 @@
 -- The kinds of a header's faults that don't end the reading, as the law lists them.
-use Rattle.std.proofs.Common.{◌≡◌, ℕ, ◌≤◌, ◌^◌, Bool, true, false, not, ◌&&◌, ◌||◌, cond, eqb, ltb, List, [], ◌∷◌}
-use Rattle.std.proofs.Common.{◌++◌, length, take, drop, Some, None, refl, sym, ap, ◌∙◌, ⊎_elim, arith, lit≤}
+use Rattle.std.proofs.Common.{◌≡◌, ℕ, ◌^◌, Bool, true, false, not, ◌&&◌, ◌||◌, cond, eqb, ltb, List, [], ◌∷◌}
+use Rattle.std.proofs.Common.{◌++◌, length, Some, None, refl, sym, ap, ◌∙◌, ⊎_elim, lit≤}
 use Rattle.std.specs.Prelude.{find, filter, map, nat_lt, slice_range}
 use Rattle.std.specs.List.{list_any}
 use Rattle.std.proofs.lemmas.List.Folds.{list_any-append}
 use Rattle.std.proofs.lemmas.Bool.{cases_Bool}
-use Rattle.std.proofs.lemmas.List.{take-take}
-use Rattle.std.proofs.lemmas.Slice.{between_is}
 use Rattle.gds_header.specs.declared.header.Header.{Header}
 use Rattle.gds_header.specs.declared.kind.HeaderKind.{HeaderKind}
 use Rattle.gds_header.specs.declared.kind.HeaderKind.TheVariants.{LongFile, ReservedByte, BadTransactionNumber}
 use Rattle.gds_header.specs.Fields.{fields_of, file_length_of}
 use Rattle.gds_header.specs.Kinds.{holds, ends, kinds, through_first, header_faults, ending_kind, reserved_bytes}
 use Rattle.gds_header.specs.Kinds.{has_free, groups_past}
-use Rattle.gds_header.proofs.EndingLemmas.{fields_of-front}
+use Rattle.gds_header.proofs.EndingLemmas.{fields_of-front, reserved_bytes-front}
 use Rattle.gds_law.specs.Kinds.{fault_kind_of}
 use Rattle.gds_law.specs.Maps.{fault_of}
 use Rattle.gds_law.specs.Faults.{faults_of_header}
@@ -61,17 +59,6 @@ as_faults test (k ∷ ks) = step (test k) (as_faults test ks)
 
 -- ---- the bytes that must be 0
 
-range_front : (a b k : ℕ) (xs : List ℕ) → b ≤ k → slice_range (take k xs) a b ≡ slice_range xs a b
-range_front a b k xs within = between_is (take k xs) a b ∙ ap (drop a) (take-take b k xs within)
-    ∙ sym (between_is xs a b)
-
-reserved_front : (k : ℕ) (xs : List ℕ) → 8192 ≤ k → reserved_bytes (take k xs) ≡ reserved_bytes xs
-reserved_front k xs within =
-    let first = range_front 36 40 k xs (omega arith) in
-    let second = range_front 48 4096 k xs (omega arith) in
-    let third = range_front 4352 8192 k xs (omega arith) in
-    λ i. first i ++ second i ++ third i
-
 or-assoc : (a b c d : Bool) → ((a || b) || c) || d ≡ a || (b || (c || d))
 or-assoc true b c d = refl
 or-assoc false true c d = refl
@@ -97,7 +84,7 @@ unfolding open_kinds
 header-told file bytes h size is long =
     let fields : fields_of file ≡ h = sym (fields_of-front 8192 file (lit≤ tt)) ∙ ap fields_of is.begins
     ∙ sym is.fields in
-    let reserved : reserved_bytes file ≡ reserved_bytes bytes = sym (reserved_front 8192 file (lit≤ tt))
+    let reserved : reserved_bytes file ≡ reserved_bytes bytes = sym (reserved_bytes-front 8192 file (lit≤ tt))
     ∙ ap reserved_bytes is.begins in
     let marked : holds file ReservedByte ≡ is_marked h bytes =
     (λ i. any_set (reserved i) || list_any (has_free (fields i)) (groups_past (fields i))) ∙ marked-is h bytes in

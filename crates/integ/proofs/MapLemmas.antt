@@ -1,17 +1,14 @@
 -- The maps of a file that tells its bytes, group by group.
 use Rattle.std.proofs.Common.{ℕ, zero, suc, ◌≡◌, ◌+◌, ◌-◌, ◌*◌, ◌/◌, ◌<◌, ◌≤◌, true, false, cond, List, [], ◌∷◌}
-use Rattle.std.proofs.Common.{◌++◌, length, take, drop, Option, Some, IfSome, refl, sym, ◌∙◌, ap, subst, arith}
+use Rattle.std.proofs.Common.{◌++◌, length, Option, Some, IfSome, refl, sym, ◌∙◌, ap, subst, arith}
 use Rattle.std.proofs.Common.{length-append}
 use Rattle.std.specs.Prelude.{flat_map, map, filter, not, nat_lt, ◌&&◌, ◌==◌}
 use Rattle.std.specs.List.{range_with_len}
 use Rattle.std.specs.Int.{div_ceil}
 use Rattle.std.proofs.lemmas.Bool.{eq-eqb, ne_eqb}
-use Rattle.std.proofs.Math.Nat.{mul-le-mul_left}
-use Rattle.std.proofs.lemmas.List.{get_or-take}
-use Rattle.gds_block.specs.Fields as block
-use Rattle.host_model.specs.Units.{IsUnit, block_length, unit_bytes, unit_length, unit_place}
+use Rattle.host_model.specs.Units.{IsUnit, unit_bytes}
 use Rattle.gds_header.specs.declared.header.Header.{Header}
-use Rattle.gds_header.specs.Fields.{fields_of, file_length_of}
+use Rattle.gds_header.specs.Fields.{fields_of}
 use Rattle.gds_header.specs.Kinds.{groups_of, has_free}
 use Rattle.gds_law.specs.Kinds.{map_kinds, pair_kinds}
 use Rattle.gds_law.specs.Maps.{map_number, map_of, places, fault_of, free_places, free_blocks, group_faults}
@@ -26,7 +23,8 @@ use Rattle.integ.specs.GroupMap.{GroupMap, in_use, free_count, head_holds, head_
 use Rattle.integ.specs.GroupMap.{kinds_of_pair, faults_at, faults_in, faults_of}
 use Rattle.integ_walk.specs.Walk.{IsHeaderOf}
 use Rattle.integ.specs.Maps.{groups_in, free_before}
-use Rattle.integ_walk.proofs.UnitLemmas.{whole_file}
+use Rattle.gds_law.proofs.UnitLemmas.{unit_is}
+use Rattle.integ_walk.proofs.UnitLemmas.{is_unit}
 
 -- the map of a group of a file
 abbrev pub group_of : List ℕ → List ℕ → ℕ → GroupMap
@@ -145,54 +143,19 @@ free_before-all file e is = ap (λ n. length (flat_map (free_places file) (range
 
 -- ---- a map as a unit
 
-no_header : (number : ℕ) → ((512 * number + 1) == 0) ≡ false
-no_header number = ne_eqb (512 * number + 1) 0 (λ e. omega (arith, e))
-
--- the bytes of a block, as both crates say it
-block_size-is : (file : List ℕ) → (fields_of file).block_size ≡ block_length file
-unfolding block.u32_at
-block_size-is file =
-    let first = get_or-take 4 (drop 8 file) 0 0 (omega arith) in
-    let second = get_or-take 4 (drop 8 file) 1 0 (omega arith) in
-    let third = get_or-take 4 (drop 8 file) 2 0 (omega arith) in
-    let fourth = get_or-take 4 (drop 8 file) 3 0 (omega arith) in
-    omega (arith, first, second, third, fourth)
-
-module _ (h : Header) (file : List ℕ) (is : IsHeaderOf h file) (number : ℕ) where
-  size : h.block_size ≡ block_length file
-  size = ap (λ (k : Header). k.block_size) is.same ∙ block_size-is file
-
-  length_is : unit_length file (512 * number + 1) ≡ h.block_size
-  length_is = ap (λ b. cond b 8192 (block_length file)) (no_header number) ∙ sym size
-
-  place_is : unit_place file (512 * number + 1) ≡ 8192 + 512 * number * h.block_size
-  place_is =
-      let one : 512 * number + 1 - 1 ≡ 512 * number = omega arith in
-      ap (λ b. cond b 0 (8192 + (512 * number + 1 - 1) * block_length file)) (no_header number)
-      ∙ (λ i. 8192 + one i * sym size i)
-
-  -- The file has the map of a group whose first block it has.
-  pub map-unit : 512 * number < h.total → (n : ℕ) → n ≡ h.block_size → IsUnit file (512 * number + 1) n
-  map-unit within n this =
-      let whole : file_length_of h ≤ length file =
-      subst (λ (k : Header). file_length_of k ≤ length file) (sym is.same) (whole_file file is.readable) in
-      let more = mul-le-mul_left h.block_size within in
-      record {
-        length_is = this ∙ sym length_is;
-        within = omega (arith, whole, more, this, place_is);
-      }
-
-  pub map-bytes : unit_bytes file (512 * number + 1) ≡ map_of file number
-  map-bytes =
-      (λ i. take (length_is i) (drop (place_is i) file))
-      ∙ ap (λ (k : Header). take k.block_size (drop (8192 + 512 * number * k.block_size) file)) is.same
+-- The file has the map of a group whose first block it has.
+pub map-unit : (h : Header) (file : List ℕ) → IsHeaderOf h file → (number : ℕ) → 512 * number < h.total → (n : ℕ)
+    → n ≡ h.block_size → IsUnit file (512 * number + 1) n
+map-unit h file is number within n this =
+    is_unit file (512 * number) n is.readable (subst (λ (k : Header). 512 * number < k.total) is.same within)
+    (this ∙ ap (λ (k : Header). k.block_size) is.same)
 
 -- The map that was read is that of the group.
 pub group-here : (h : Header) (file used bytes : List ℕ) (number : ℕ) → IsHeaderOf h file
     → bytes ≡ unit_bytes file (512 * number + 1)
     → group_of file used number ≡ record { header = h; number = number; bytes = bytes; used = used }
 group-here h file used bytes number is read =
-    let b = sym (read ∙ map-bytes h file is number) in
+    let b = sym (read ∙ unit_is file (512 * number)) in
     λ i. record { header = sym is.same i; number = number; bytes = b i; used = used }
 
 pub groups-is : (h : Header) (file : List ℕ) (n : ℕ) → IsHeaderOf h file → n ≡ div_ceil h.total 512

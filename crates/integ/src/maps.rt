@@ -22,7 +22,8 @@ struct MapsTold {
 }
 
 /// Tells the faults of the local bitmaps of a file with this header, group by group, and then that of its free count.
-/// It answers how many they are. A block is in use where it is a map, or is in the set `used`: block b is bit b mod 8 of
+/// It answers how many they are. A block is in use where it is a map, or is in the set `used`: block b is bit b mod 8
+/// of
 /// byte b div 8. Where the call is refused, some of the first faults were told.
 pub fn map_faults<U: UnitSource, F: FaultSink>(
     alloc: Global,

@@ -2,6 +2,7 @@
 use Rattle.std.proofs.Common.{ℕ, ◌≡◌, ◌+◌, Bool, true, false, List, [], ◌∷◌, ◌++◌, length, take, drop, inl, inr, refl}
 use Rattle.std.proofs.Common.{sym, ◌∙◌, ap, subst, arith, length-take, length-drop}
 use Rattle.std.specs.Prelude.{map, ◌&&◌, if◌then◌else◌, None}
+use Rattle.integ_quick.proofs.KindLemmas.{if_none}
 use Rattle.std.proofs.lemmas.Bool.{eqb-true, cond-true, cond-false}
 use Rattle.std.proofs.lemmas.List.{drop_all, drop-drop, length-map, map-append}
 use Rattle.gds_block.specs.Block.{used_of}
@@ -71,10 +72,6 @@ pub length-faults : (b : BlockReading) (path : List (ℕ × ℕ)) (offset : ℕ)
     → length (faults_at b path offset kinds) ≡ length kinds
 length-faults b path offset kinds = length-map (map (λ kind. (offset, kind)) kinds) (fault_at b path)
     ∙ length-map kinds (λ kind. (offset, kind))
-
-if_none : {A : Type 0} (t : Bool) (xs : List A) → xs ≡ [] → (if t then [] else xs) ≡ []
-if_none true xs h = refl
-if_none false xs h = h
 
 pulled : {A : Type 0} (t : Bool) (xs : List A) → (if t then [] else xs ++ []) ≡ (if t then [] else xs) ++ []
 pulled true xs = refl

@@ -1,22 +1,18 @@
 -- How a key's name and subscripts are read, piece by piece.
-use Rattle.std.proofs.Common.{◌≡◌, ℕ, zero, suc, ◌+◌, ◌<◌, ◌≤◌, Bool, true, false, cond, List, [], ◌∷◌, ◌++◌, length}
-use Rattle.std.proofs.Common.{take, drop, refl, sym, ap, ◌∙◌, ◌⊎◌, inl, inr, arith, append_assoc, length-append, Option}
+use Rattle.std.proofs.Common.{◌≡◌, ℕ, Bool, true, false, cond, List, [], ◌∷◌, length}
+use Rattle.std.proofs.Common.{take, refl, sym, ap, ◌∙◌, arith, Option}
 use Rattle.std.proofs.Common.{None, Some}
-use Rattle.std.specs.Prelude.{◌==◌, ◌↔◌, not, bytes_eq, IfSome, IfNone, is_some}
-use Rattle.std.specs.Option.{option_or}
-use Rattle.std.proofs.lemmas.Bool.{and_parts, or_cases, cond-true, cond-false, ltb-true, eqb-true, false≢true}
-use Rattle.std.proofs.lemmas.Bool.{true≢false, false_from_ne_true}
+use Rattle.std.specs.Prelude.{◌==◌, ◌↔◌, not, bytes_eq}
+use Rattle.std.proofs.lemmas.Bool.{cond-true, cond-false, eqb-true, false≢true}
+use Rattle.std.proofs.lemmas.Bool.{false_from_ne_true}
 use Rattle.m_number.specs.Numeral.{Numeral, IsNumeral}
 use Rattle.m_number.specs.Text.{text_of}
 use Rattle.m_number.specs.Bytes.{bytes_of}
 use Rattle.m_number.proofs.BytesLemmas.{byte_count}
 use Rattle.m_number.proofs.TextLemmas.{no_front}
-use Rattle.m_number.specs.Number.{numeral_of}
-use Rattle.m_number.specs.declared.number.Number.{Number}
 use Rattle.gds_law.specs.Number.{is_number_text, is_number_bytes}
 use Rattle.m_key.specs.KeyParts.{unescaped}
 use Rattle.gds_law.specs.Key.{is_text, subscript_fault}
-use Rattle.gds_law.specs.declared.kind.FaultKind.{FaultKind}
 use Rattle.gds_law.specs.declared.kind.FaultKind.TheVariants.{BadNumber}
 use Rattle.gds_law.proofs.NumberLemmas.{text_test, bytes_test}
 

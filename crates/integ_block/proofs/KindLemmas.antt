@@ -1,8 +1,9 @@
 -- Which kinds are left of a table, at any test of kinds and any that end the reading. Nothing here unfolds over the
 -- table.
 use Rattle.std.proofs.Common.{ℕ, ◌≡◌, ◌+◌, ◌<◌, Bool, true, false, cond, List, [], ◌∷◌, length, get_or, drop, refl, ◌∙◌}
+use Rattle.std.proofs.lemmas.Bool.{or_parts}
 use Rattle.std.proofs.Common.{ap, add-one, drop-cons}
-use Rattle.std.specs.Prelude.{filter, ◌||◌}
+use Rattle.std.specs.Prelude.{filter}
 use Rattle.std.specs.List.{list_any}
 use Rattle.gds_header.specs.Kinds.{through_first}
 
@@ -61,10 +62,6 @@ module _ {K : Type 0} (test : K → Bool) (kinds : List K) (i : ℕ) (d : K) (h 
 
 -- ---- tables of which no kind ends the reading
 
-pub or_none : (x y : Bool) → (x || y) ≡ false → (x ≡ false) × (y ≡ false)
-or_none true y h = absurd (cc)
-or_none false y h = (refl, h)
-
 kept_step : {K : Type 0} (ends : K → Bool) (t : Bool) (k : K) (xs ys : List K) → ends k ≡ false
     → through_first ends xs ≡ ys → through_first ends (cond t (k ∷ xs) xs) ≡ cond t (k ∷ ys) ys
 kept_step ends true k xs ys e h = rw e (ap (λ ks. k ∷ ks) h)
@@ -77,7 +74,7 @@ none_step ends false k xs e h = h
 
 pub any_front : {K : Type 0} (ends : K → Bool) (k : K) (kinds : List K) → list_any ends (k ∷ kinds) ≡ false
     → (ends k ≡ false) × (list_any ends kinds ≡ false)
-any_front ends k kinds h = or_none (ends k) (list_any ends kinds) h
+any_front ends k kinds h = or_parts (ends k) (list_any ends kinds) h
 
 module _ {K : Type 0} (ends test : K → Bool) where
   pub kept-open : (k : K) (kinds rest : List K) → ends k ≡ false → kept ends test kinds ≡ rest

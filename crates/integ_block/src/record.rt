@@ -19,7 +19,7 @@ use crate::key::key_fault;
 use crate::reading::BlockReading;
 use gds_block::RecordView;
 use gds_law::{FaultKind, FaultSink, Role, SinkTrouble, Visit};
-use m_key::{Key, end_in, ends_in_zero, join_key, key_from, name_part};
+use m_key::{Key, end_within, join_key, key_from, name_part};
 
 /// Where the first record of a block stands.
 pub(crate) const FIRST: u32 = 16;
@@ -153,13 +153,11 @@ impl<'a> Record<'a> {
     {
         let count = self.view.count as usize;
         let greatest = self.reading.header.key_max as usize;
-        match end_in(
-            ends_in_zero(&self.previous.as_slice()[..count]),
-            self.view.body,
-        ) {
-            Some(len) if count + len <= greatest => Ok(len),
-            _ if count + self.view.body.len() > greatest => Err(FaultKind::KeyTooLong),
-            _ => Err(FaultKind::KeyWithoutEnd),
+        let front = &self.previous.as_slice()[..count];
+        match end_within(front, self.view.body, greatest) {
+            Some(len) => Ok(len),
+            None if count + self.view.body.len() > greatest => Err(FaultKind::KeyTooLong),
+            None => Err(FaultKind::KeyWithoutEnd),
         }
     }
 

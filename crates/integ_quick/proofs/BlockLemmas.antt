@@ -1,7 +1,7 @@
 -- What is told of a block whose records are read one after another, where nothing is wrong with them.
-use Rattle.std.proofs.Common.{ℕ, ◌≡◌, ◌+◌, ◌-◌, ◌≤◌, ◌<◌, inl, inr, Bool, true, false, List, [], ◌∷◌, ◌++◌, length}
+use Rattle.std.proofs.Common.{ℕ, ◌≡◌, ◌+◌, ◌-◌, ◌≤◌, ◌<◌, inl, inr, false, List, [], ◌∷◌, ◌++◌, length}
 use Rattle.std.proofs.Common.{take, drop, refl, sym, ◌∙◌, ap, subst, arith, length-take, length-drop}
-use Rattle.std.specs.Prelude.{map, not, option_map, Option, if◌then◌else◌}
+use Rattle.std.specs.Prelude.{map, option_map, Option, if◌then◌else◌}
 use Rattle.std.proofs.lemmas.Bool.{cond-false}
 use Rattle.std.proofs.lemmas.List.{drop-drop, nil_from_length}
 use Rattle.gds_block.specs.Block.{used_of, level_of}
@@ -13,8 +13,7 @@ use Rattle.m_key.proofs.KeyEndLemmas.{HasOpenFronts-nil}
 use Rattle.gds_law.specs.Visit.{global}
 use Rattle.gds_law.specs.Block.{kinds_from, size_kinds}
 use Rattle.gds_law.specs.BlockReading.{BlockReading, PlacedRecord, size_of, key_of}
-use Rattle.gds_law.specs.Record.{kinds_of, is_ended, is_above_bound, is_below_bound}
-use Rattle.gds_law.specs.declared.kind.FaultKind.{FaultKind}
+use Rattle.gds_law.specs.Record.{is_ended, is_above_bound, is_below_bound}
 use Rattle.integ_quick.specs.Record.{IsFront, Follows}
 use Rattle.integ_quick.specs.declared.leaf.Leaf.{Leaf}
 use Rattle.integ_quick.specs.Leaf.{Reads, GoesOn, IsReadTo}
@@ -158,7 +157,8 @@ pub IsReadTo-next : (leaf : Leaf) (left previous key rest more body : List ℕ) 
 IsReadTo-next leaf left previous key rest more body count is front less follows = record {
   right = follows.right;
   goes_on = λ b bytes r.
-      GoesOn-next b bytes leaf.name.now previous key rest body more count r.level r.role (is.goes_on b bytes r) front less
+      GoesOn-next b bytes leaf.name.now previous key rest body more count r.level r.role (is.goes_on b bytes r) front
+      less
       (subst (λ h. Follows h leaf.name.now previous count body key) (sym r.header) follows);
 }
 

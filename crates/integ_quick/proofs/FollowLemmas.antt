@@ -1,12 +1,13 @@
 -- When a key follows another one with nothing wrong.
-use Rattle.std.proofs.Common.{ℕ, zero, suc, cond, ◌≡◌, ◌+◌, ◌-◌, ◌<◌, ◌≤◌, ◌⊎◌, inl, inr, Bool, true, false, List, []}
-use Rattle.std.proofs.Common.{◌∷◌, ◌++◌, length, get_or, take, drop, Option, None, Some, refl, sym, ◌∙◌, ap, subst}
-use Rattle.std.proofs.Common.{arith, append_assoc, length-append, length-take, length-drop}
-use Rattle.std.specs.Prelude.{option_map, count_by, ◌==◌, ◌&&◌, slice_index}
-use Rattle.std.proofs.lemmas.List.{take_at, drop_at, take-append-drop, take-append-le, take-take, get_or-take}
+use Rattle.std.proofs.Common.{ℕ, zero, suc, ◌≡◌, ◌+◌, ◌-◌, ◌<◌, ◌≤◌, ◌⊎◌, inl, inr, true, List, []}
+use Rattle.std.proofs.Common.{◌∷◌, ◌++◌, length, get_or, take, drop, refl, sym, ◌∙◌, ap, subst}
+use Rattle.std.proofs.Common.{arith, append_assoc, length-append, length-take}
+use Rattle.std.specs.Prelude.{count_by, ◌==◌, slice_index}
+use Rattle.std.proofs.lemmas.List.{drop_at, take-append-drop, take-append-le, take-take, get_or-take}
 use Rattle.std.proofs.lemmas.List.{take_rest}
 use Rattle.gds_header.specs.declared.header.Header.{Header}
-use Rattle.m_key.specs.KeyEnd.{end_in, zero_after, shared}
+use Rattle.m_key.specs.KeyEnd.{shared}
+use Rattle.m_key.proofs.KeyEndLemmas.{end_within-some}
 use Rattle.m_key.specs.Node.{is_name}
 use Rattle.gds_law.specs.Record.{is_below}
 use Rattle.integ_quick.specs.Subscripts.{AreSubscripts, IsKeyOf, IsStart}
@@ -54,15 +55,6 @@ Follows-first header name old count body key named none ending has_few first who
 
 -- ---- a further key
 
-end_some : (t : Bool) (o : Option ℕ) (n : ℕ) → Some n ≡ cond t (Some 1) (option_map suc o) → 1 ≤ n
-end_some true o n e = let f : n ≡ 1 = cc in omega arith
-end_some false None n e = absurd (cc)
-end_some false (Some m) n e = let f : n ≡ suc m = cc in omega arith
-
-end_in-some : (z : Bool) (body : List ℕ) (n : ℕ) → Some n ≡ end_in z body → 1 ≤ n
-end_in-some z [] n e = absurd (cc)
-end_in-some z (b ∷ body) n e = end_some (z && (b == 0)) (end_in (b == 0) body) n e
-
 first_changed : (body : List ℕ) (n : ℕ) → 1 ≤ n → 1 ≤ length body
     → (rest : List ℕ) × (take n body ≡ get_or body 0 0 ∷ rest)
 first_changed [] n h l = absurd (omega arith)
@@ -73,7 +65,8 @@ module _ (header : Header) (name previous : List ℕ) (count : ℕ) (body key : 
     (ending : EndsIn header previous count body key) (less : count < length previous) (some : 1 ≤ length body)
     (above : get_or previous count 0 < get_or body 0 0) where
   changed : (rest : List ℕ) × (take ending.key_end body ≡ get_or body 0 0 ∷ rest)
-  changed = first_changed body ending.key_end (end_in-some _ body ending.key_end ending.ends) some
+  changed = first_changed body ending.key_end
+      (end_within-some header.key_max (take count previous) body ending.key_end ending.ends) some
 
   key-parted : key ≡ take count previous ++ get_or body 0 0 ∷ changed.0
   key-parted = ending.bytes ∙ ap (λ xs. take count previous ++ xs) changed.1

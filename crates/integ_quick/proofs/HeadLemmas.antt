@@ -1,7 +1,7 @@
 -- A level-0 block of a global of whose head and records no kind stands.
-use Rattle.std.proofs.Common.{ℕ, ◌≡◌, ◌+◌, ◌<◌, ◌≤◌, Bool, true, false, List, [], ◌∷◌, ◌++◌, length, Option, None, Some}
-use Rattle.std.proofs.Common.{refl, sym, ◌∙◌, ap, arith, length-drop, length-take}
-use Rattle.std.specs.Prelude.{filter, map, not, is_none, nat_lt, nat_le, ◌&&◌, ◌||◌, ◌==◌, if◌then◌else◌}
+use Rattle.std.proofs.Common.{ℕ, ◌≡◌, ◌≤◌, false, List, [], ◌++◌, length}
+use Rattle.std.proofs.Common.{◌∙◌, ap, arith}
+use Rattle.std.specs.Prelude.{map, not, is_none, ◌==◌, if◌then◌else◌}
 use Rattle.std.specs.List.{AllByRecursion, list_any}
 use Rattle.std.proofs.lemmas.Bool.{eq-eqb, ne_eqb, lt-leb, le-ltb, and_left, or_from}
 use Rattle.gds_block.specs.Block.{version_of, reserved_of, level_of, used_of, tn_of}
@@ -10,11 +10,9 @@ use Rattle.gds_header.specs.declared.header.Header.{Header}
 use Rattle.gds_header.specs.Kinds.{through_first}
 use Rattle.gds_law.specs.Kinds.{ends, head_kinds}
 use Rattle.gds_law.specs.Visit.{Visit, global}
-use Rattle.gds_law.specs.BlockReading.{BlockReading, reading_of, points, has_values}
+use Rattle.gds_law.specs.BlockReading.{BlockReading, reading_of, has_values}
 use Rattle.gds_law.specs.Block.{head_holds, is_wrong_level, may_be_empty, kinds_of_head, kinds_from, kinds_of_block}
-use Rattle.gds_law.specs.Block.{children_of, children_from}
-use Rattle.gds_law.specs.declared.kind.FaultKind.{FaultKind}
-use Rattle.gds_law.specs.declared.kind.FaultKind.TheVariants.{BadVersion}
+use Rattle.gds_law.specs.Block.{children_of}
 use Rattle.integ_quick.specs.Head.{IsCleanHead}
 use Rattle.integ_quick.proofs.KindLemmas.{filter-none, if_none, children_from-none}
 
@@ -40,7 +38,10 @@ module _ (h : Header) (v : Visit) (bytes : List ℕ) (whole : length bytes ≡ h
             and_left (is_none v.level) (level_of bytes == 0) (ap is_none head.due_level),
             (
               ap (λ due. is_wrong_level due (level_of bytes)) head.due_level ∙ ap not (eq-eqb _ _ head.level),
-              (and_left (used_of bytes == 16) (not (may_be_empty b)) (ne_eqb _ _ (λ e. omega (arith, head.some, e))), tt),
+              (
+                and_left (used_of bytes == 16) (not (may_be_empty b)) (ne_eqb _ _ (λ e. omega (arith, head.some, e))),
+                tt,
+              ),
             ),
           ),
         ),

@@ -1,10 +1,10 @@
 -- A record of a level-0 block of a global that has no kind, and no child.
-use Rattle.std.proofs.Common.{ℕ, ◌≡◌, ◌+◌, Bool, true, false, List, [], ◌∷◌, ◌++◌, length, Option, None, refl, sym, ◌∙◌}
+use Rattle.std.proofs.Common.{ℕ, ◌≡◌, ◌+◌, Bool, true, false, List, [], ◌∷◌, ◌++◌, length, None, refl, ◌∙◌}
 use Rattle.std.proofs.Common.{ap}
 use Rattle.std.specs.Prelude.{filter, not, is_none, ◌&&◌, ◌==◌, nat_lt, if◌then◌else◌}
 use Rattle.std.specs.List.{AllByRecursion, list_any}
 use Rattle.std.specs.Option.{option_map_or}
-use Rattle.std.proofs.lemmas.Bool.{cond-true, cond-false}
+use Rattle.std.proofs.lemmas.Bool.{cond-false}
 use Rattle.gds_block.specs.Record.{Record}
 use Rattle.gds_header.specs.Kinds.{through_first}
 use Rattle.gds_law.specs.Kinds.{ends, record_kinds}
@@ -14,15 +14,14 @@ use Rattle.gds_law.specs.Block.{children_from}
 use Rattle.gds_law.specs.BlockReading.{BlockReading, PlacedRecord, size_of, is_last, key_of, rest_of, points}
 use Rattle.gds_law.specs.BlockReading.{pointer_of}
 use Rattle.gds_law.specs.Record.{holds, keyed_holds, last_holds, is_kind, is_directory, is_other_global, is_above_bound}
-use Rattle.gds_law.specs.Record.{is_below_bound, has_pointer, kinds_of, is_ended, children_of_record, child_to}
+use Rattle.gds_law.specs.Record.{is_below_bound, has_pointer, kinds_of, is_ended, child_to}
 use Rattle.gds_law.specs.declared.kind.FaultKind.{FaultKind}
 use Rattle.gds_law.specs.declared.kind.FaultKind.TheVariants.{StarSize, StarCount, FirstCount, CountTooLarge}
 use Rattle.gds_law.specs.declared.kind.FaultKind.TheVariants.{KeyTooLong, KeyWithoutEnd, WrongCount, KeyOutOfOrder}
 use Rattle.gds_law.specs.declared.kind.FaultKind.TheVariants.{BadName, TooManySubscripts, BadNumber, BadString}
 use Rattle.gds_law.specs.declared.kind.FaultKind.TheVariants.{NullSubscript, DirectorySubscript, WrongGlobal}
 use Rattle.gds_law.specs.declared.kind.FaultKind.TheVariants.{KeyAboveBound, KeyBelowBound, RestNotPointer}
-use Rattle.gds_law.specs.declared.kind.FaultKind.TheVariants.{ValueTooLong, PointerNotPositive, PointerTooLarge}
-use Rattle.gds_law.specs.declared.kind.FaultKind.TheVariants.{PointerToMap}
+use Rattle.gds_law.specs.declared.kind.FaultKind.TheVariants.{ValueTooLong}
 
 pub filter-none : {K : Type 0} (test : K → Bool) (kinds : List K) → AllByRecursion (λ k. test k ≡ false) kinds
     → filter test kinds ≡ []
@@ -44,10 +43,6 @@ pub record IsClean (b : BlockReading) (s : PlacedRecord) : Type 0 where
   pub not_above : is_above_bound b.visit.high (key_of b s) ≡ false
   pub not_below : is_below_bound b.level b.visit.low (key_of b s) ≡ false
   pub value : nat_lt b.header.value_max (length (rest_of b s)) ≡ false
-
-and_false : (t : Bool) → (t && false) ≡ false
-and_false true = refl
-and_false false = refl
 
 module _ (b : BlockReading) (s : PlacedRecord) where
   pub pointer_of-none : is_last b s ≡ false → points b ≡ false → pointer_of b s ≡ None
@@ -103,9 +98,11 @@ module _ (b : BlockReading) (s : PlacedRecord) where
                                     (
                                       as_keyed KeyBelowBound refl clean.not_below,
                                       (
-                                        as_keyed RestNotPointer refl (ap (λ t. t && not (length (rest_of b s) == 4)) clean.points),
+                                        as_keyed RestNotPointer refl (ap (λ t. t && not (length (rest_of b s) == 4))
+                                            clean.points),
                                         (
-                                          as_keyed ValueTooLong refl (ap (λ t. not t && nat_lt b.header.value_max (length (rest_of b s))) clean.points
+                                          as_keyed ValueTooLong refl (ap
+                                              (λ t. not t && nat_lt b.header.value_max (length (rest_of b s))) clean.points
                                               ∙ clean.value),
                                           (
                                             no_pointer _,

@@ -1,15 +1,15 @@
 -- Keys that part where the second has the greater byte.
-use Rattle.std.proofs.Common.{ℕ, zero, suc, ◌≡◌, ◌+◌, ◌<◌, ◌≤◌, ◌⊎◌, inl, inr, Bool, true, false, List, [], ◌∷◌, ◌++◌}
-use Rattle.std.proofs.Common.{length, get_or, take, Option, None, Some, refl, sym, ◌∙◌, ap, arith, Ordering}
-use Rattle.std.specs.Prelude.{nat_eq, not, ◌&&◌, ◌||◌, bytes_eq, nat_lt}
+use Rattle.std.proofs.Common.{ℕ, zero, suc, ◌≡◌, ◌<◌, Bool, true, false, List, [], ◌∷◌, ◌++◌}
+use Rattle.std.proofs.Common.{length, get_or, take, Option, None, Some, refl, sym, ◌∙◌, ap, arith}
+use Rattle.std.specs.Prelude.{not, ◌||◌}
 use Rattle.std.specs.Option.{option_map_or}
 use Rattle.std.specs.Ordering.{nat_cmp, is_lt}
 use Rattle.std.specs.Cmp.Lexicographic.{slice_cmp}
-use Rattle.std.specs.declared.cmp.Ordering.TheVariants.{Less, Equal, Greater}
-use Rattle.std.proofs.lemmas.Bool.{eqb-true, eq-eqb, ne_eqb, false≢true, cases_Bool}
-use Rattle.std.proofs.lemmas.Cmp.{nat_list_cmp_total, tied_itself}
+use Rattle.std.specs.declared.cmp.Ordering.TheVariants.{Less}
+use Rattle.std.proofs.lemmas.Bool.{eq-eqb, ne_eqb, false≢true}
+use Rattle.std.proofs.lemmas.Cmp.{nat_list_cmp_total}
 use Rattle.m_key.specs.KeyEnd.{shared}
-use Rattle.m_number.proofs.OrderingLemmas.{nat_cmp_less, nat_cmp_same}
+use Rattle.m_number.proofs.OrderingLemmas.{nat_cmp_less, nat_cmp_same, Less-is_lt}
 use Rattle.gds_law.specs.Record.{is_below, is_above_bound, is_below_bound}
 
 -- the keys agree in the first so many bytes, and then the second has a greater byte or the first ends
@@ -29,14 +29,9 @@ pub is_below-parted : (a : List ℕ) (n x : ℕ) (rest : List ℕ) → n < lengt
     → is_below a (take n a ++ x ∷ rest) ≡ true
 is_below-parted a n x rest h l = ap is_lt (slice_cmp-parted x rest a n h l)
 
-less_from : (o : Ordering) → is_lt o ≡ true → o ≡ Less
-less_from Less h = refl
-less_from Equal h = absurd (false≢true h)
-less_from Greater h = absurd (false≢true h)
-
 -- a key above another one is above what that one is above, and below what it is below
 below_then : (a b c : List ℕ) → is_below a b ≡ true → is_below b c ≡ true → is_below a c ≡ true
-below_then a b c h k = ap is_lt (nat_list_cmp_total.trans a b c (less_from _ h) (less_from _ k))
+below_then a b c h k = ap is_lt (nat_list_cmp_total.trans a b c (Less-is_lt _ h) (Less-is_lt _ k))
 
 above_step : (t u : Bool) → (u ≡ true → t ≡ true) → not u ≡ false → not t ≡ false
 above_step t true f h = ap not (f refl)

@@ -1,33 +1,22 @@
 -- A record with which nothing is wrong, as the law of faults has it.
-use Rattle.std.proofs.Common.{ℕ, ◌≡◌, ◌+◌, ◌≤◌, ◌<◌, ◌⊎◌, inl, inr, Bool, true, false, List, ◌∷◌, ◌++◌, length, take}
-use Rattle.std.proofs.Common.{drop, Option, None, Some, refl, sym, ◌∙◌, ap, subst, arith, append_assoc, length-append}
+use Rattle.std.proofs.Common.{ℕ, ◌≡◌, ◌+◌, ◌<◌, ◌⊎◌, inl, inr, false, List, length, take}
+use Rattle.std.proofs.Common.{drop, None, Some, sym, ◌∙◌, ap, subst, arith, length-append}
 use Rattle.std.proofs.Common.{length-take, length-drop}
 use Rattle.std.specs.Prelude.{option_map, unwrap_or, is_none, nat_lt, nat_le, not, ◌&&◌, ◌==◌, bytes_eq}
-use Rattle.std.proofs.lemmas.Bool.{le-leb, le-ltb, lt-leb, eq-eqb, ne_eqb, and_left, and_right}
-use Rattle.std.proofs.lemmas.List.{take_at, drop_at, take-append-drop, take-take}
+use Rattle.std.proofs.lemmas.Bool.{le-ltb, lt-leb, eq-eqb, ne_eqb, and_left, and_right}
 use Rattle.std.proofs.lemmas.Slice.Eq.{bytes_eq-Decides}
-use Rattle.m_key.specs.KeyEnd.{key_len, end_in, zero_after, shared, HasOpenFronts}
-use Rattle.m_key.proofs.KeyEndLemmas.{key_len-end_in, end_in-append_open, end_in-take_same, key_len-append}
-use Rattle.m_key.proofs.KeyEndLemmas.{HasOpenFronts-take}
+use Rattle.m_key.specs.KeyEnd.{key_len, shared, HasOpenFronts}
+use Rattle.m_key.proofs.KeyEndLemmas.{key_within-end_within, open_front, HasOpenFronts-key_within}
+use Rattle.gds_law.proofs.KeyPartLemmas.{key_of-found, rest_of-found}
 use Rattle.gds_law.specs.Visit.{global}
 use Rattle.m_key.specs.KeyParts.{name_part}
 use Rattle.gds_law.specs.Key.{key_fault}
-use Rattle.gds_law.specs.BlockReading.{BlockReading, PlacedRecord, is_first, is_last, size_of, full_of, key_end, key_of}
+use Rattle.gds_law.specs.BlockReading.{BlockReading, PlacedRecord, is_first, size_of, full_of, key_end, key_of}
 use Rattle.gds_law.specs.BlockReading.{rest_of, has_values, points}
 use Rattle.gds_law.specs.Record.{keyed_holds, is_below, is_directory, is_other_global, is_above_bound, is_below_bound}
-use Rattle.gds_law.specs.Record.{kinds_of, is_ended}
 use Rattle.gds_law.specs.declared.kind.FaultKind.TheVariants.{FirstCount, CountTooLarge}
 use Rattle.integ_quick.specs.Record.{Follows, EndsIn}
 use Rattle.integ_quick.proofs.KindLemmas.{IsClean}
-
--- an end in the front of some bytes
-key_len-take_more : (bytes : List ℕ) (m n : ℕ) → key_len bytes ≡ Some n → n ≤ m → key_len (take m bytes) ≡ Some n
-key_len-take_more bytes m n h le =
-    let same : key_len (take n bytes) ≡ Some n = key_len-end_in (take n bytes)
-    ∙ end_in-take_same bytes false n (sym (key_len-end_in bytes) ∙ h) in
-    let front : take n (take m bytes) ≡ take n bytes = take-take n m bytes le in
-    ap key_len (sym (take-append-drop n (take m bytes)) ∙ ap (λ xs. xs ++ drop n (take m bytes)) front)
-    ∙ key_len-append (take n bytes) _ n same
 
 -- The record is its block's first and has count 0, or it stands behind others and its count is within the key before.
 abbrev pub IsPlaced : PlacedRecord → Type 0
@@ -40,15 +29,13 @@ module _ (b : BlockReading) (s : PlacedRecord) (placed : IsPlaced s) (fronts : H
   abbrev front : List ℕ
   front = take s.record_.count s.previous
 
-  abbrev at : ℕ
-  at = s.record_.count + e.key_end
-
   front-open : key_len front ≡ None
   front-open =
-      elim placed [
-        | inl h ↦ ap (λ n. key_len (take n s.previous)) h.1
-        | inr h ↦ fronts s.record_.count h.1
-      ]
+      open_front s.previous s.record_.count fronts
+      (elim placed [
+        | inl h ↦ inl h.1
+        | inr h ↦ inr h.1
+      ])
 
   length-front : length front ≡ s.record_.count
   length-front =
@@ -57,23 +44,15 @@ module _ (b : BlockReading) (s : PlacedRecord) (placed : IsPlaced s) (fronts : H
         | inr h ↦ omega (arith, h.1, length-take s.record_.count s.previous)
       ]
 
-  key_len-full : key_len (full_of s) ≡ Some at
-  key_len-full =
-      key_len-end_in (full_of s)
-      ∙ end_in-append_open front s.record_.body false (sym (key_len-end_in front) ∙ front-open)
-      ∙ ap (λ k. option_map (λ n. k + n) (end_in (zero_after false front) s.record_.body)) length-front
-      ∙ ap (option_map (λ n. s.record_.count + n)) (sym e.ends)
+  pub found : key_end b s ≡ Some (length front + e.key_end)
+  found =
+      key_within-end_within b.header.key_max front s.record_.body front-open
+      ∙ ap (option_map (λ n. length front + n)) (sym e.ends)
 
-  pub found : key_end b s ≡ Some at
-  found = key_len-take_more (full_of s) b.header.key_max at key_len-full e.short
+  pub key_of-is : key_of b s ≡ key
+  key_of-is = key_of-found b s e.key_end found ∙ sym e.bytes
 
-  full-parts : full_of s ≡ key ++ drop e.key_end s.record_.body
-  full-parts =
-      ap (λ xs. front ++ xs) (sym (take-append-drop e.key_end s.record_.body))
-      ∙ sym (append_assoc front (take e.key_end s.record_.body) (drop e.key_end s.record_.body))
-      ∙ ap (λ xs. xs ++ drop e.key_end s.record_.body) (sym e.bytes)
-
-  pub length-key : length key ≡ at
+  pub length-key : length key ≡ s.record_.count + e.key_end
   length-key =
       ap length e.bytes
       ∙ omega (
@@ -84,20 +63,14 @@ module _ (b : BlockReading) (s : PlacedRecord) (placed : IsPlaced s) (fronts : H
         length-take e.key_end s.record_.body,
       )
 
-  pub key_of-is : key_of b s ≡ key
-  key_of-is =
-      ap (λ o. take (unwrap_or o 0) (full_of s)) found ∙ ap (take at) full-parts
-      ∙ take_at key (drop e.key_end s.record_.body) at length-key
-
   rest_of-is : rest_of b s ≡ drop e.key_end s.record_.body
-  rest_of-is =
-      ap (λ o. drop (unwrap_or o 0) (full_of s)) found ∙ ap (drop at) full-parts
-      ∙ drop_at key (drop e.key_end s.record_.body) at length-key
+  rest_of-is = rest_of-found b s e.key_end found
 
   pub fronts-key : HasOpenFronts key
   fronts-key =
-      subst HasOpenFronts (ap (take at) full-parts ∙ take_at key (drop e.key_end s.record_.body) at length-key)
-      (HasOpenFronts-take (full_of s) at key_len-full)
+      subst HasOpenFronts
+      (ap (λ o. take (unwrap_or o 0) (full_of s)) (sym found) ∙ key_of-is)
+      (HasOpenFronts-key_within b.header.key_max (full_of s) (length front + e.key_end) found)
 
   value-short : nat_lt b.header.value_max (length (rest_of b s)) ≡ false
   value-short = le-ltb _ _ (omega (arith, e.value, ap length rest_of-is, length-drop e.key_end s.record_.body))

@@ -1,25 +1,22 @@
 -- Names and subscripts in keys.
-use Rattle.std.proofs.Common.{ℕ, zero, suc, cond, ◌≡◌, ◌+◌, ◌-◌, ◌*◌, ◌<◌, ◌≤◌, ◌⊎◌, inl, inr, Bool, true, false, List}
-use Rattle.std.proofs.Common.{[], ◌∷◌, ◌++◌, length, get_or, take, drop, Option, None, Some, refl, sym, ◌∙◌, ap, subst}
+use Rattle.std.proofs.Common.{ℕ, zero, suc, cond, ◌≡◌, ◌+◌, ◌-◌, ◌*◌, ◌<◌, ◌≤◌, inl, inr, Bool, true, List}
+use Rattle.std.proofs.Common.{[], ◌∷◌, ◌++◌, length, get_or, take, drop, None, refl, sym, ◌∙◌, ap, subst}
 use Rattle.std.proofs.Common.{arith, append_assoc, length-append}
-use Rattle.std.specs.Prelude.{not, ◌==◌, count_by, nat_lt}
+use Rattle.std.specs.Prelude.{◌==◌, count_by}
 use Rattle.std.specs.List.{AllByRecursion, join_with_byte}
 use Rattle.std.specs.Option.{option_or}
-use Rattle.std.proofs.lemmas.Bool.{eq-eqb, ne_eqb, cases_lt, cond-true}
-use Rattle.std.proofs.lemmas.List.{take_at, drop_at, get_or_append_left, get_or-append_right, take-append-le}
-use Rattle.std.proofs.lemmas.List.{take-append-drop, take_all, drop_more, nil_from_length}
-use Rattle.std.proofs.lemmas.List.Elements.{All-from_recursion}
+use Rattle.std.proofs.lemmas.Bool.{cases_lt}
+use Rattle.std.proofs.lemmas.List.{get_or_append_left, get_or-append_right}
+use Rattle.std.proofs.lemmas.List.{take-append-drop, drop_more, nil_from_length}
 use Rattle.std.proofs.lemmas.List.Sums.{sum_by-append, sum_by-cons}
-use Rattle.m_key.specs.Node.{Node, IsNode, is_name}
+use Rattle.m_key.specs.Node.{Node, is_name}
 use Rattle.m_key.specs.KeyParts.{name_part, subscript_parts}
-use Rattle.m_key.proofs.KeyPartLemmas.{is_name-Decides, name_part-append, name_part-none, pieces-joined}
+use Rattle.m_key.proofs.KeyPartLemmas.{is_name-Decides, name_part-ended, pieces-joined}
 use Rattle.m_key.proofs.KeyPartLemmas.{subscript_parts-is}
 use Rattle.m_key.proofs.ZeroLemmas.{NoZero}
 use Rattle.m_key.proofs.KeyLemmas as keys
 use Rattle.m_key.proofs.NumberLemmas.{numbers}
 use Rattle.gds_law.specs.Key.{subscript_fault, first_fault, key_fault}
-use Rattle.gds_law.specs.declared.kind.FaultKind.{FaultKind}
-use Rattle.gds_law.specs.declared.kind.FaultKind.TheVariants.{BadNumber}
 use Rattle.gds_law.proofs.KeyLemmas.{by_parts}
 use Rattle.integ_quick.specs.Subscripts.{IsRight, ended_before, AreSubscripts, IsKeyOf, IsStart}
 
@@ -34,10 +31,6 @@ NoZero-name name h =
       subscripts =
           λ k d l. absurd (omega arith);
     })
-
-name_part-ended : (name rest : List ℕ) → NoZero name → name_part (name ++ 0 ∷ rest) ≡ name
-name_part-ended name rest h = name_part-append name rest
-    ∙ sym (name_part-none name (All-from_recursion (λ b. 0 < b) name h))
 
 -- ---- subscripts
 

@@ -1,17 +1,17 @@
 -- Subscripts with which nothing is wrong.
-use Rattle.std.proofs.Common.{ℕ, ◌≡◌, ◌+◌, ◌-◌, ◌<◌, ◌≤◌, Bool, true, false, cond, ℤ, pos, negsuc, List, [], ◌∷◌, ◌++◌}
-use Rattle.std.proofs.Common.{length, get_or, take, drop, map, Option, None, Some, refl, sym, ◌∙◌, ap, subst, arith}
+use Rattle.std.proofs.Common.{ℕ, ◌≡◌, ◌+◌, ◌-◌, ◌<◌, Bool, true, false, cond, ℤ, pos, negsuc, List, [], ◌∷◌, ◌++◌}
+use Rattle.std.proofs.Common.{length, get_or, take, drop, None, Some, refl, sym, ◌∙◌, ap, arith}
 use Rattle.std.proofs.Common.{add-one, suc}
 use Rattle.std.specs.Prelude.{not, ◌==◌, ◌||◌, nat_lt, nat_le, option_map, slice_index, All, replicate}
 use Rattle.std.specs.Char.{is_ascii_digit}
 use Rattle.std.specs.List.{AllByRecursion}
-use Rattle.std.proofs.lemmas.Bool.{cond-true, cond-false, lt-ltb, le-leb, ne_eqb, or_right, false_from_ne_true}
-use Rattle.std.proofs.lemmas.Bool.{false≢true, leb-true, OnTrue_from, eqb-false}
+use Rattle.std.proofs.lemmas.Bool.{cond-true, cond-false, lt-ltb, ne_eqb, or_right, false_from_ne_true}
+use Rattle.std.proofs.lemmas.Bool.{false≢true, eqb-false}
 use Rattle.std.proofs.lemmas.Bool.Decides.{nat_tests}
 use Rattle.std.proofs.lemmas.List.Elements.{recursion_from_All}
 use Rattle.m_number.specs.Numeral.{Numeral, IsNumeral}
 use Rattle.m_number.specs.Bytes.{bytes_of}
-use Rattle.m_number.specs.Text.{codes_of, large_text, nonzero_text, size_text, text_of}
+use Rattle.m_number.specs.Text.{codes_of, large_text, size_text, text_of}
 use Rattle.gds_law.specs.Number.{is_number_text, is_number_bytes}
 use Rattle.m_key.specs.KeyParts.{unescaped}
 use Rattle.gds_law.specs.Key.{is_text, subscript_fault}

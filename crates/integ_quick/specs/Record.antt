@@ -1,9 +1,9 @@
 -- A record of a level-0 block, and when nothing is wrong with it.
-use Rattle.std.specs.Prelude.{ℕ, ◌≡◌, ◌+◌, ◌≤◌, true, false, List, ◌++◌, length, take, drop, Some, None}
+use Rattle.std.specs.Prelude.{ℕ, ◌≡◌, ◌+◌, ◌≤◌, true, List, ◌++◌, length, take, drop, Some, None}
 use Rattle.gds_block.specs.Fields.{u16_at}
 use Rattle.gds_block.specs.Record.{is_well_sized, size_of}
 use Rattle.gds_header.specs.declared.header.Header.{Header}
-use Rattle.m_key.specs.KeyEnd.{end_in, zero_after, shared}
+use Rattle.m_key.specs.KeyEnd.{end_within, shared}
 use Rattle.m_key.specs.KeyParts.{name_part}
 use Rattle.gds_law.specs.Key.{key_fault}
 use Rattle.gds_law.specs.Record.{is_below}
@@ -19,7 +19,7 @@ pub record IsFront (left : List ℕ) (count : ℕ) (body rest : List ℕ) : Type
 -- The record's key ends in its body and is this one, and neither the key nor what follows is too long.
 pub record EndsIn (header : Header) (previous : List ℕ) (count : ℕ) (body key : List ℕ) : Type 0 where
   pub key_end : ℕ
-  pub ends : Some key_end ≡ end_in (zero_after false (take count previous)) body
+  pub ends : Some key_end ≡ end_within header.key_max (take count previous) body
   pub within : key_end ≤ length body
   pub short : count + key_end ≤ header.key_max
   pub value : length body ≤ key_end + header.value_max

@@ -14,7 +14,7 @@ use crate::front::Front;
 use crate::key_so_far::KeySoFar;
 use crate::subscripts::{are_subscripts, last_start};
 use gds_header::Header;
-use m_key::{Key, end_in, ends_in_zero};
+use m_key::{Key, end_within};
 
 // A key of no more bytes has 31 subscripts at most.
 const FEW: usize = 66;
@@ -104,13 +104,12 @@ impl Leaf<'_> {
         ensures { OnTrue result
             (EndsIn self.now.header.now key.old front.entry.count front.entry.body.now key.new) }
     {
-        let Some(end) = end_in(ends_in_zero(&key.as_slice()[..front.count]), front.body) else {
+        let shared = &key.as_slice()[..front.count];
+        let Some(end) = end_within(shared, front.body, self.header.key_max as usize) else {
             return false;
         };
         let (changed, value) = front.body.split_at(end);
-        if front.count + end > self.header.key_max as usize
-            || value.len() > self.header.value_max as usize
-        {
+        if value.len() > self.header.value_max as usize {
             return false;
         }
         key.replace_end(front.count, changed);

@@ -1,10 +1,9 @@
-ghost use Rattle.std.specs.Prelude.{◌≡◌, ◌≤◌, ◌<◌, ◌++◌, ◌∷◌, length, slice_index, All, None, false, IfSome};
+ghost use Rattle.std.specs.Prelude.{◌≡◌, ◌≤◌, ◌<◌, ◌∷◌, length, slice_index, All, None, false};
 ghost use Rattle.std.specs.Bool.{OnTrue};
-ghost use Rattle.m_key.proofs.ZeroLemmas.{NoZero};
 ghost use Rattle.gds_law.specs.Key.{subscript_fault};
 ghost use Rattle.integ_quick.specs.Subscripts.{AreSubscripts, IsStart, begins_number};
 
-use m_key::is_escaped_text;
+use m_key::{is_escaped_text, split_at_zero};
 use m_number::is_encoded;
 
 /// Whether these are right subscripts, each ended by a 0, and one more 0.
@@ -22,15 +21,6 @@ pub(crate) fn are_subscripts(bytes: &[u8]) -> bool
         rest = more;
     }
     false
-}
-
-// What stands before the first 0, and what behind it.
-fn split_at_zero(bytes: &[u8]) -> Option<(&[u8], &[u8])>
-    ensures no_zero { IfSome result (λ p. NoZero p.0.now) }
-    ensures whole { IfSome result (λ p. bytes.now ≡ p.0.now ++ 0 ∷ p.1.now) }
-{
-    let at = bytes.iter().position(|b| *b == 0)?;
-    Some((&bytes[..at], &bytes[at + 1..]))
 }
 
 // Whether nothing is wrong with a subscript.

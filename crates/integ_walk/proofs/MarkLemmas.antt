@@ -11,10 +11,11 @@ use Rattle.gds_law.specs.Block.{faults_of_block}
 use Rattle.gds_law.specs.Path.{Steps, visit_at, path_cmp, AreKept, AreReached}
 use Rattle.gds_law.specs.Tree.{double_at, double_faults, faults_at, is_among, ends_in, is_reached}
 use Rattle.gds_law.proofs.MembershipLemmas.{IsIn, in_from_Contains, Contains-from_in, in_left, in_right, in_either}
+use Rattle.gds_law.proofs.PathLemmas.{not_below_nil}
 use Rattle.gds_sound.proofs.KeptLemmas.{any_in, in_any, same_tests, kept_leads, from_among, at_kept}
 use Rattle.integ_walk.specs.Link.{Link}
 use Rattle.integ_walk.specs.Progress.{EndsIn}
-use Rattle.integ_walk.proofs.WalkLemmas.{IsAt, front-step, kept_reached, before_next, sooner_done, nothing_below}
+use Rattle.integ_walk.proofs.WalkLemmas.{IsAt, front-step, kept_reached, before_next, sooner_done}
 
 module _ (image : List ℕ) (kept reached : List Steps) (ak : AreKept image kept) (ar : AreReached image kept reached)
   where
@@ -27,14 +28,15 @@ module _ (image : List ℕ) (kept reached : List Steps) (ak : AreKept image kept
 
     -- The next path is kept exactly where its block isn't marked.
     pub marked_not_kept : (done rest : List Steps) (q : Steps) (v : Visit) (ws : List Link) (marked : ℕ → Bool)
-        → IsAt image kept reached ak ar done rest q v ws → AreMarks done marked → marked v.block ≡ true → Contains kept q
+        → IsAt image kept reached ak ar done rest q v ws → AreMarks done marked → marked v.block ≡ true
+        → Contains kept q
         → ⊥
     marked_not_kept done rest q v ws marked a m h c =
         let e = (m v.block).0 h in
         let low = before_next image kept reached ak ar done rest q a.parts e.path (in_from_Contains done e.path e.there)
         in
         elim ((ak.exactly q).0 c) [
-          | inl nil ↦ nothing_below image kept reached ak ar e.path (subst (λ x. path_cmp e.path x ≡ Less) nil low)
+          | inl nil ↦ not_below_nil e.path (subst (λ x. path_cmp e.path x ≡ Less) nil low)
           | inr k ↦
               let same : v ≡ k.0 = cc (a.leads, k.1.leads) in
               k.2 (record {
@@ -49,7 +51,8 @@ module _ (image : List ℕ) (kept reached : List Steps) (ak : AreKept image kept
         ]
 
     pub unmarked_kept : (done rest : List Steps) (q : Steps) (v : Visit) (ws : List Link) (marked : ℕ → Bool)
-        → IsAt image kept reached ak ar done rest q v ws → AreMarks done marked → marked v.block ≡ false → Contains kept q
+        → IsAt image kept reached ak ar done rest q v ws → AreMarks done marked → marked v.block ≡ false
+        → Contains kept q
     unmarked_kept done rest q v ws marked a m h =
         let c : Contains reached q =
         Contains-from_in reached q (subst (λ xs. IsIn xs q) (sym a.parts) (in_right done (q ∷ rest) q (inl refl))) in
@@ -147,7 +150,8 @@ module _ (image : List ℕ) (kept reached : List Steps) (ak : AreKept image kept
                   }
             ]
 
-        by : (e : EndsIn image kept (done ++ q ∷ []) block) → IsIn done e.path ⊎ IsIn (q ∷ []) e.path → more block ≡ true
+        by : (e : EndsIn image kept (done ++ q ∷ []) block) → IsIn done e.path ⊎ IsIn (q ∷ []) e.path
+            → more block ≡ true
         by e (inl i) = also block
             ∙ or_right (block ==
             v.block) (marked block) ((m block).1 (record {

@@ -11,9 +11,10 @@ use Rattle.gds_law.specs.Block.{faults_of_block}
 use Rattle.gds_law.specs.Path.{Steps, children_at, AreKept, AreReached}
 use Rattle.gds_law.specs.Tree.{faults_at, tree_faults, is_reached}
 use Rattle.gds_law.proofs.MembershipLemmas.{IsIn, in_from_Contains, Contains-from_in, in_either}
+use Rattle.gds_law.proofs.MembershipLemmas.{in_map_from}
 use Rattle.integ_walk.specs.Link.{Link, path_to, links_at, double_of}
 use Rattle.integ_walk.specs.Progress.{AreInOrder, HasCome}
-use Rattle.integ_walk.proofs.WalkLemmas.{AllAhead, Walked, IsAt, from_map, at_next, at_root, walked_past, walked_into}
+use Rattle.integ_walk.proofs.WalkLemmas.{AllAhead, Walked, IsAt, at_next, at_root, walked_past, walked_into}
 use Rattle.integ_walk.proofs.WalkLemmas.{walked_all}
 use Rattle.integ_walk.proofs.MarkLemmas.{AreMarks, MarksAlso, marked_not_kept, unmarked_kept, marks_past}
 use Rattle.integ_walk.proofs.MarkLemmas.{marks_into, marks_all, faults_kept, faults_double}
@@ -89,7 +90,7 @@ module _ (image : List ℕ) (kept reached : List Steps) (ak : AreKept image kept
     levels_at : (q : Steps) (v : Visit) (w : Link) → IsIn (links_at image q v) w
         → w.level ≡ level_of (block_of image w.block)
     levels_at q v w i =
-        let k = from_map (λ (c : Child). record {
+        let k = in_map_from (λ (c : Child). record {
           path = q;
           block = v.block;
           level =
@@ -102,7 +103,8 @@ module _ (image : List ℕ) (kept reached : List Steps) (ak : AreKept image kept
         → Bool)
         → IsAt image kept reached ak ar done rest q v ws → Beside done faults marked ws → Contains kept q
         → MarksAlso image kept reached ak ar marked v.block more
-        → Come (faults ++ faults_of_block (fields_of image) q v (block_of image v.block)) more (links_at image q v ++ ws)
+        → Come (faults ++ faults_of_block (fields_of image) q v (block_of image v.block)) more
+        (links_at image q v ++ ws)
     entered done rest q v ws faults marked more a b c also =
         come_of (done ++ q ∷ []) rest _ more (links_at image q v
         ++ ws) (walked_into image kept reached ak ar done rest q v ws a c) (record {

@@ -17,6 +17,7 @@ use Rattle.gds_law.specs.Rank.{rank}
 use Rattle.gds_law.specs.Sink.{IsCut}
 use Rattle.gds_law.specs.Tree.{tree_faults, is_reached}
 use Rattle.gds_law.proofs.MembershipLemmas.{IsIn, in_from_Contains, Contains-from_in, in_either}
+use Rattle.gds_law.proofs.MembershipLemmas.{in_map_from}
 use Rattle.gds_law.proofs.RankLemmas.{falls}
 use Rattle.gds_law.proofs.SinkLemmas.{IsCut-behind, IsCut-front, IsCut-all}
 use Rattle.integ_walk.specs.BlockSet.{has_block, free_below}
@@ -26,7 +27,6 @@ use Rattle.integ_walk.specs.Walk.{IsHeaderOf}
 use Rattle.integ_walk.specs.Walker.{State, IsSound, most_of_block, work_left, IsState, IsOn, entered, with_link}
 use Rattle.integ_walk.proofs.ChildLemmas.{children_of_few, children_of_within, faults_few}
 use Rattle.integ_walk.proofs.ProgressLemmas.{come_root, come_into, come_past, come_front, come_all}
-use Rattle.integ_walk.proofs.WalkLemmas.{from_map}
 
 -- ---- the set
 
@@ -175,7 +175,7 @@ module _ (s : State) (v : Visit) (path : Steps) (bytes used : List ℕ) where
 
   sound_here : length path + rank v ≤ 15 → (link : Link) → IsIn (map here below) link → IsSound s.header link
   sound_here short link i =
-      let k = from_map here below link i in
+      let k = in_map_from here below link i in
       subst (λ (l : Link). IsSound s.header l) k.2 (record {
         within = children_of_within s.header v bytes k.0 k.1;
         short = omega (arith, short, falls s.header v bytes k.0 k.1, length-append path ((v.block, k.0.offset) ∷ []));
@@ -195,10 +195,11 @@ module _ (s : State) (v : Visit) (path : Steps) (bytes used : List ℕ) where
         record {
           limits = h.limits;
           room = room ∙ h.room;
-          sound = λ l c. elim (in_either (map here below) s.links l (in_from_Contains (map here below ++ s.links) l c)) [
-            | inl i ↦ sound_here short l i
-            | inr i ↦ h.sound l (Contains-from_in s.links l i)
-          ];
+          sound =
+              λ l c. elim (in_either (map here below) s.links l (in_from_Contains (map here below ++ s.links) l c)) [
+                | inl i ↦ sound_here short l i
+                | inr i ↦ h.sound l (Contains-from_in s.links l i)
+              ];
           few = omega (arith, less.0, links);
         },
         omega (arith, less.1, links),

@@ -1,15 +1,14 @@
 -- The blocks of a file whose header can be read, as its units.
-use Rattle.std.proofs.Common.{◌≡◌, ℕ, ◌+◌, ◌-◌, ◌*◌, ◌<◌, ◌≤◌, ◌==◌, Bool, true, false, ◌||◌, List, [], ◌∷◌, length}
-use Rattle.std.proofs.Common.{take, drop, filter, find, None, Some, inl, inr, refl, sym, ◌∙◌, arith}
+use Rattle.std.proofs.Common.{◌≡◌, ℕ, ◌+◌, ◌*◌, ◌<◌, ◌≤◌, Bool, true, false, ◌||◌, List, [], ◌∷◌, length}
+use Rattle.std.proofs.Common.{filter, find, None, Some, inl, inr, refl, sym, ◌∙◌, arith}
 use Rattle.std.proofs.Common.{mul-le-mul_right, if◌then◌else◌}
-use Rattle.std.specs.Int.{w32, from_le_bytes}
 use Rattle.std.specs.List.{list_any}
-use Rattle.std.proofs.lemmas.Bool.{ltb-false, ne_eqb, cond-false}
-use Rattle.host_model.specs.Units.{IsUnit, block_length, unit_length, unit_place, unit_bytes}
+use Rattle.std.proofs.lemmas.Bool.{ltb-false}
+use Rattle.host_model.specs.Units.{IsUnit}
 use Rattle.gds_header.specs.declared.kind.HeaderKind.TheVariants.{ShortFile}
-use Rattle.gds_block.specs.Fields.{u32_at}
-use Rattle.gds_header.specs.Fields.{fields_of, image_length, place_of, block_of}
+use Rattle.gds_header.specs.Fields.{fields_of, image_length}
 use Rattle.gds_header.specs.Kinds.{ends, holds, kinds, header_faults, ending_kind}
+use Rattle.gds_law.proofs.UnitLemmas.{length_at, place_at}
 use Rattle.gds_law.proofs.RankLemmas.{through_any, none_there}
 
 none_found : {A : Type 0} (test : A → Bool) (xs : List A) → find test xs ≡ None → list_any test xs ≡ false
@@ -28,32 +27,6 @@ whole_file file h =
     let none = sym (through_any ends (filter (holds file) kinds)) ∙ none_found ends (header_faults file) h in
     ltb-false (length file) (image_length file)
     (none_there ends (holds file) kinds ShortFile none refl (inr (inr (inr (inr (inr (inr (inl refl))))))))
-
--- The number in four bytes is read from no more than these.
-four_bytes : (bytes : List ℕ) → from_le_bytes w32 (take 4 bytes) ≡ from_le_bytes w32 bytes
-four_bytes [] = refl
-four_bytes (a ∷ []) = refl
-four_bytes (a ∷ b ∷ []) = refl
-four_bytes (a ∷ b ∷ c ∷ []) = refl
-four_bytes (a ∷ b ∷ c ∷ d ∷ bytes) = refl
-
-same_length : (file : List ℕ) → block_length file ≡ (fields_of file).block_size
-unfolding u32_at
-same_length file = four_bytes (drop 8 file)
-
-not_header : (block : ℕ) → (block + 1 == 0) ≡ false
-not_header block = ne_eqb (block + 1) 0 (λ e. omega (arith, e))
-
-length_at : (file : List ℕ) (block : ℕ) → unit_length file (block + 1) ≡ (fields_of file).block_size
-length_at file block = cond-false (block + 1 == 0) _ _ (not_header block) ∙ same_length file
-
-place_at : (file : List ℕ) (block : ℕ) → unit_place file (block + 1) ≡ place_of (fields_of file) block
-place_at file block =
-    let one : block + 1 - 1 ≡ block = omega arith in
-    cond-false (block + 1 == 0) _ _ (not_header block) ∙ (λ i. 8192 + one i * same_length file i)
-
-pub unit_is : (file : List ℕ) (block : ℕ) → unit_bytes file (block + 1) ≡ block_of file block
-unit_is file block = λ i. take (length_at file block i) (drop (place_at file block i) file)
 
 pub is_unit : (file : List ℕ) (block n : ℕ) → ending_kind file ≡ None → block < (fields_of file).total
     → n ≡ (fields_of file).block_size → IsUnit file (block + 1) n

@@ -12,10 +12,10 @@ use Rattle.gds_law.specs.Visit.{Visit, Child, directory_root}
 use Rattle.gds_law.specs.Path.{Steps, children_at, child_at, visit_from, visit_at, path_cmp, front_of, ExtendsKept}
 use Rattle.gds_law.specs.Path.{AreKept, AreReached}
 use Rattle.gds_law.proofs.MembershipLemmas.{IsIn, in_from_Contains, Contains-from_in, in_left, in_right, in_either}
-use Rattle.gds_law.proofs.MembershipLemmas.{in_map}
+use Rattle.gds_law.proofs.MembershipLemmas.{in_map, in_map_from}
 use Rattle.gds_law.proofs.RisingLemmas.{Rising, Rising-from_sorted, rises, Rising-behind, not_below_itself}
 use Rattle.gds_law.proofs.RisingLemmas.{not_both_below}
-use Rattle.gds_law.proofs.PathLemmas.{path_total, path_exact, some_if, some_then}
+use Rattle.gds_law.proofs.PathLemmas.{path_total, path_exact, not_below_nil, some_if, some_then}
 use Rattle.gds_sound.proofs.BlockLemmas.{RisingFrom, children_apart, above}
 use Rattle.gds_sound.proofs.TreeLemmas.{leads_through}
 use Rattle.gds_sound.proofs.PathLemmas.{step_leads}
@@ -64,11 +64,6 @@ both_ahead (x ∷ xs) ws a b h = (
   both_ahead xs ws a.1 b (λ y w i j. h y w (inr i) j),
 )
 
-pub from_map : {A B : Type 0} (f : A → B) (xs : List A) (y : B) → IsIn (map f xs) y → (x : A) × IsIn xs x × (f x ≡ y)
-from_map f [] y i = absurd i
-from_map f (x ∷ xs) y (inl e) = (x, inl refl, e)
-from_map f (x ∷ xs) y (inr i) = let r = from_map f xs y i in (r.0, inr r.1, r.2)
-
 module _ (path : Steps) (block level : ℕ) where
   abbrev here : Child → Link
   here c = record { path = path; block = block; level = level; child = c }
@@ -76,7 +71,7 @@ module _ (path : Steps) (block level : ℕ) where
   siblings_ahead : (low : ℕ) (cs : List Child) → RisingFrom low cs → AllAhead (map here cs)
   siblings_ahead low [] r = tt
   siblings_ahead low (c ∷ cs) r = (
-    λ x i. let k = from_map here cs x i in
+    λ x i. let k = in_map_from here cs x i in
         let more = above (suc c.offset) cs k.0 r.1 k.1 in
         subst (λ (w : Link). IsAhead (path
         ++ (block, c.offset) ∷ []) (path_to w)) k.2 (ahead_at path block c.offset k.0.offset (omega arith)),
@@ -86,7 +81,7 @@ module _ (path : Steps) (block level : ℕ) where
   below_ahead : (cs : List Child) (w : Link) (x : Link) → IsAhead path (path_to x) → IsIn (map here cs) w
       → IsAhead (path_to w) (path_to x)
   below_ahead cs w x h i =
-      let k = from_map here cs w i in
+      let k = in_map_from here cs w i in
       subst (λ (y : Link). IsAhead (path_to y) (path_to x)) k.2
       (ahead_longer path ((block, k.0.offset) ∷ []) (path_to x) h)
 
@@ -240,10 +235,6 @@ module _ (image : List ℕ) (kept reached : List Steps) (ak : AreKept image kept
         by [] e = absurd (subst (λ xs. IsIn xs (path_to w)) e (s.left w (inl refl)).0)
         by (r ∷ more) e = (more, at more (e ∙ ap (λ p. p ∷ more) (next_is done rest w ws s r more e)))
 
-    pub nothing_below : (p : Steps) → path_cmp p [] ≡ Less → ⊥
-    nothing_below [] h = cc
-    nothing_below (s ∷ p) h = cc
-
     -- The first of all is the empty path.
     pub at_root : (more : List Steps) × IsAt [] more [] directory_root []
     at_root = by reached refl (in_from_Contains reached [] ((ar.exactly []).1 (inl refl)))
@@ -261,7 +252,7 @@ module _ (image : List ℕ) (kept reached : List Steps) (ak : AreKept image kept
         by : (xs : List Steps) → reached ≡ xs → IsIn xs [] → (more : List Steps) × IsAt [] more [] directory_root []
         by [] e i = absurd i
         by (r ∷ more) e (inl same) = (more, at more (e ∙ ap (λ p. p ∷ more) same))
-        by (r ∷ more) e (inr i) = absurd (nothing_below r (behind_next [] more r e [] i))
+        by (r ∷ more) e (inr i) = absurd (not_below_nil r (behind_next [] more r e [] i))
 
     -- ---- behind it
 
@@ -311,7 +302,8 @@ module _ (image : List ℕ) (kept reached : List Steps) (ak : AreKept image kept
         led_of p i (inl ((s ∷ t), e)) =
             let c = in_reached (done ++ q ∷ []) rest (more_parts done rest q a.parts) p i in
             let u = reached_leads image kept p ((ar.exactly p).0 c) in
-            let l = leads_through image v s.0 s.1 t u.0 (sym (leads_from (s ∷ t)) ∙ ap (visit_at image) (sym e) ∙ u.1) in
+            let l = leads_through image v s.0 s.1 t u.0 (sym (leads_from (s ∷ t)) ∙ ap (visit_at image) (sym e) ∙ u.1)
+            in
             let same : (v.block, l.child.offset) ≡ s = λ k. (sym l.own k, l.at k) in (
               link_of image q v l.child,
               in_left (links_at image q v) ws (link_of image q v l.child)
@@ -320,7 +312,8 @@ module _ (image : List ℕ) (kept reached : List Steps) (ak : AreKept image kept
             )
 
         child_left : (c : Child) → IsIn (children_at image v) c
-            → IsIn rest (path_to (link_of image q v c)) × (visit_at image (path_to (link_of image q v c)) ≡ Some c.visit)
+            → IsIn rest (path_to (link_of image q v c))
+            × (visit_at image (path_to (link_of image q v c)) ≡ Some c.visit)
         child_left c i =
             let step : Steps = (v.block, c.offset) ∷ [] in
             let leads : visit_at image (q ++ step) ≡ Some c.visit = leads_from step
@@ -338,7 +331,7 @@ module _ (image : List ℕ) (kept reached : List Steps) (ak : AreKept image kept
             → IsIn rest (path_to w) × (visit_at image (path_to w) ≡ Some w.child.visit)
         left_of w (inr j) = a.left w j
         left_of w (inl j) =
-            let k = from_map (link_of image q v) (children_at image v) w j in
+            let k = in_map_from (link_of image q v) (children_at image v) w j in
             subst (λ (x : Link). IsIn rest (path_to x)
             × (visit_at image (path_to x) ≡ Some x.child.visit)) k.2 (child_left k.0 k.1)
 

@@ -9,9 +9,9 @@ use Rattle.std.specs.declared.cmp.Ordering.TheVariants.{Less}
 use Rattle.std.proofs.Math.Numerals.{one-add}
 use Rattle.std.proofs.lemmas.Bool.{eqb-true, ne_eqb, cases_lt, leb-true, leb-false}
 use Rattle.std.proofs.lemmas.Cmp.{nat_list_cmp_total, tied_itself}
-use Rattle.std.proofs.lemmas.List.{drop_all, take_all, take-append-drop, take-take}
+use Rattle.std.proofs.lemmas.List.{drop_all, take_all, take-append-drop, take-take, length-take-le}
 use Rattle.std.proofs.lemmas.List.Sums.{common_prefix_len-le, common_prefix_len-drop_no}
-use Rattle.m_key.specs.KeyEnd.{key_len, end_in, zero_after, IsKey, HasOpenFronts, shared}
+use Rattle.m_key.specs.KeyEnd.{key_len, key_within, end_in, end_within, zero_after, IsKey, HasOpenFronts, shared}
 
 -- ---- the shared bytes
 
@@ -114,6 +114,14 @@ end_in-within (b ∷ bytes) z n h =
       | inr e ↦ omega (arith, e.more, end_in-within bytes (b == 0) e.tail e.found)
     ]
 
+pub end_in-some : (bytes : List ℕ) (z : Bool) (n : ℕ) → end_in z bytes ≡ Some n → 1 ≤ n
+end_in-some [] z n h = absurd (cc)
+end_in-some (b ∷ bytes) z n h =
+    elim (some_step (z && (b == 0)) (end_in (b == 0) bytes) n h) [
+      | inl e ↦ omega (arith, e.1)
+      | inr e ↦ omega (arith, e.more)
+    ]
+
 -- No shorter front has an end, and the front up to the end has it.
 pub end_in-take_less : (bytes : List ℕ) (z : Bool) (n m : ℕ) → end_in z bytes ≡ Some n → m < n
     → end_in z (take m bytes) ≡ None
@@ -178,7 +186,7 @@ module _ (limit : ℕ) (front body : List ℕ) where
   at n = length front + n
 
   -- the end that was found, if the key is no longer than the limit
-  abbrev kept : Option ℕ → Option ℕ
+  abbrev pub kept : Option ℕ → Option ℕ
   kept o = option_and_then (λ n. cond (nat_le (at n) limit) (Some n) None) o
 
   by_length : (n : ℕ) (t : Bool) → nat_le (at n) limit ≡ t → key_len (front ++ body) ≡ Some (at n)
@@ -199,6 +207,32 @@ module _ (limit : ℕ) (front body : List ℕ) where
       (key_len-end_in (front ++ body) ∙ end_in-append_open front body false (sym (key_len-end_in front) ∙ h)
       ∙ ap (option_map at) (sym e))
 
+  pub key_within-end_within : key_len front ≡ None
+      → key_within limit (front ++ body) ≡ option_map at (end_within limit front body)
+  key_within-end_within h = key_len-end_within (end_in (zero_after false front) body) refl h
+
+  by_test : (m n : ℕ) (t : Bool) → cond t (Some m) None ≡ Some n → Some m ≡ Some n
+  by_test m n true e = e
+  by_test m n false e = absurd (cc)
+
+  found_in : (o : Option ℕ) (n : ℕ) → kept o ≡ Some n → o ≡ Some n
+  found_in None n e = absurd (cc)
+  found_in (Some m) n e = by_test m n (nat_le (at m) limit) e
+
+  -- An end has a byte.
+  pub end_within-some : (n : ℕ) → Some n ≡ end_within limit front body → 1 ≤ n
+  end_within-some n e =
+      end_in-some body (zero_after false front) n (found_in (end_in (zero_after false front) body) n (sym e))
+
+-- the first bytes of a key, fewer than all
+pub open_front : (previous : List ℕ) (count : ℕ) → HasOpenFronts previous → (count ≡ 0) ⊎ (count < length previous)
+    → key_len (take count previous) ≡ None
+open_front previous count fronts h =
+    elim h [
+      | inl e ↦ ap (λ n. key_len (take n previous)) e
+      | inr less ↦ fronts count less
+    ]
+
 pub HasOpenFronts-nil : HasOpenFronts []
 HasOpenFronts-nil n h = absurd (omega arith)
 
@@ -209,6 +243,25 @@ HasOpenFronts-take bytes n h m k =
     let same : end_in false (take n bytes) ≡ Some n = end_in-take_same bytes false n found in
     let less : m < n = omega (arith, length-take n bytes) in
     key_len-end_in (take m (take n bytes)) ∙ end_in-take_less (take n bytes) false n m same less
+
+-- a key of at most so many bytes
+pub key_within-le : (limit : ℕ) (bytes : List ℕ) (n : ℕ) → key_within limit bytes ≡ Some n → n ≤ limit
+key_within-le limit bytes n h = omega (arith, key_len-within (take limit bytes) n h, length-take limit bytes)
+
+pub HasOpenFronts-key_within : (limit : ℕ) (bytes : List ℕ) (n : ℕ) → key_within limit bytes ≡ Some n
+    → HasOpenFronts (take n bytes)
+HasOpenFronts-key_within limit bytes n h =
+    subst HasOpenFronts (take-take n limit bytes (key_within-le limit bytes n h))
+    (HasOpenFronts-take (take limit bytes) n h)
+
+pub key_within-whole : (limit : ℕ) (bytes : List ℕ) (n : ℕ) → key_within limit bytes ≡ Some n
+    → key_len (take n bytes) ≡ Some (length (take n bytes))
+key_within-whole limit bytes n h =
+    let front = take limit bytes in
+    let same : take n front ≡ take n bytes = take-take n limit bytes (key_within-le limit bytes n h) in
+    let size : length (take n bytes) ≡ n =
+    ap length (sym same) ∙ length-take-le n front (key_len-within front n h) in
+    ap key_len (sym same) ∙ key_len-take_more front n n h (omega arith) ∙ ap (λ k. Some k) (sym size)
 
 -- a key with a key as its front is that key
 front_key : (a b : List ℕ) → IsKey a → IsKey b → (n : ℕ) → n ≡ length a → take n b ≡ a → a ≡ b

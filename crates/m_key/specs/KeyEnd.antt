@@ -9,6 +9,10 @@ key_len [] = None
 key_len (b ∷ []) = None
 key_len (b ∷ c ∷ bytes) = if (b == 0) && (c == 0) then Some 2 else option_map suc (key_len (c ∷ bytes))
 
+-- how many of these bytes are the key at their front, where one of no more bytes than the limit stands there
+abbrev pub key_within : ℕ → List ℕ → Option ℕ
+key_within limit bytes = key_len (take limit bytes)
+
 -- These bytes end with their first two neighbouring zero bytes, and there are at most 255 of them.
 pub record IsKey (bytes : List ℕ) : Type 0 where
   pub whole : key_len bytes ≡ Some (length bytes)

@@ -1,6 +1,6 @@
-ghost use Rattle.std.specs.Prelude.{◌≡◌, ◌+◌, ◌≤◌, ◌++◌, false, length, take, None, option_map, IfSome};
+ghost use Rattle.std.specs.Prelude.{◌≡◌, ◌+◌, ◌≤◌, ◌++◌, false, length, None, option_map, IfSome};
 ghost use Rattle.arrayvec.specs.ArrayVec.{array_vec_len};
-ghost use Rattle.m_key.specs.KeyEnd.{end_in, end_within, key_len, shared, zero_after};
+ghost use Rattle.m_key.specs.KeyEnd.{end_in, end_within, key_len, key_within, shared, zero_after};
 
 use crate::Key;
 
@@ -79,9 +79,9 @@ pub fn end_within(front: &[u8], body: &[u8], limit: usize) -> Option<usize>
     ensures value { result ≡ end_within limit front.now body.now }
     ensures within { IfSome result (λ n. n ≤ length body.now) }
     ensures short { IfSome result (λ n. length front.now + n ≤ limit) }
-    // Where no key ends in the front, it is the first that ends in both.
-    ensures first { key_len front.now ≡ None
-        → key_len (take limit (front.now ++ body.now)) ≡ option_map (λ n. length front.now + n) result }
+    // Where no key ends in the front, that is the key at the front of both.
+    ensures key { key_len front.now ≡ None
+        → key_within limit (front.now ++ body.now) ≡ option_map (λ n. length front.now + n) result }
 {
     let len = end_in(ends_in_zero(front), body)?;
     if front.len() + len > limit {

@@ -1,7 +1,8 @@
-use host_file::{FileHost, StdinSource, read_full};
+use host_file::{FileHost, StdinSource, read_full_at};
 use host_model::{FileNo, Host, HostFailed, Source};
 use std::alloc::Allocator;
-use std::io::{BufRead, ErrorKind, Lines, Read};
+use std::io::{BufRead, ErrorKind, Lines};
+use std::os::unix::fs::FileExt;
 use std::test::Fail;
 use std::{env, fs, io, process};
 
@@ -122,26 +123,73 @@ fn fails_on_a_directory(rt: HostRuntime) -> Result<(), Fail> {
     Ok(())
 }
 
-/// A reader that fails.
-#[derive(Drop)]
-struct Broken;
+/// A file is held by the host that opened it or made it, and no other host reads or changes it meanwhile.
+#[test]
+fn keeps_a_second_host_out(rt: HostRuntime) -> Result<(), Fail> {
+    let path = own_path(&rt, "locks")?;
+    let images = format!(in rt.alloc(); "{path}.bi")?;
+    let mut first = FileHost::new(&rt, rt.alloc(), path.as_str())?;
+    let mut second = FileHost::new(&rt, rt.alloc(), path.as_str())?;
+    let mut out = [b'.'; 4];
+    let both_missing = (first.len(FileNo::Db), second.len(FileNo::Db));
+    let made = first.write_at(FileNo::Db, 0, b"made");
+    let read = (second.len(FileNo::Db), second.read(FileNo::Db, 0, &mut out));
+    let changed = (
+        second.write_at(FileNo::Db, 0, b"other"),
+        second.cut(FileNo::Db, 0),
+        second.sync(FileNo::Db),
+    );
+    let other_file = second.write_at(FileNo::Images, 0, b"images");
+    let other_read = first.len(FileNo::Images);
+    let left = fs::read(&rt, path.as_str())?;
+    drop(first);
+    let freed = second.read(FileNo::Db, 0, &mut out);
+    fs::remove_file(&rt, path.as_str())?;
+    fs::remove_file(&rt, images.as_str())?;
+    assert_eq!(rt; both_missing, (Ok(0), Ok(0)));
+    assert_eq!(rt; made, Ok(()));
+    assert_eq!(rt; read, (Err(HostFailed), Err(HostFailed)));
+    assert_eq!(rt;
+        changed,
+        (Err(HostFailed), Err(HostFailed), Err(HostFailed))
+    );
+    assert_eq!(rt; left.as_slice(), b"made".as_slice());
+    assert_eq!(rt; other_file, Ok(()));
+    assert_eq!(rt; other_read, Err(HostFailed));
+    assert_eq!(rt; freed, Ok(4));
+    assert_eq!(rt; out, *b"made");
+    Ok(())
+}
 
-impl Read for Broken {
-    fn read(&mut self, _buf: &mut [u8]) -> io::Result<usize> {
-        Err(io::Error::from(ErrorKind::BrokenPipe))
+/// A file of which a read gives three bytes at most, and none at all past the seventh.
+#[derive(Drop)]
+struct Pieces(&'static [u8]);
+
+impl FileExt for Pieces {
+    fn read_at(&self, buf: &mut [u8], offset: u64) -> io::Result<usize> {
+        if offset > 7 {
+            return Err(io::Error::from(ErrorKind::BrokenPipe));
+        }
+        let left = self.0.get(offset as usize..).unwrap_or(&[]);
+        let count = left.len().min(buf.len()).min(3);
+        buf[..count].copy_from_slice(&left[..count]);
+        Ok(count)
+    }
+
+    fn write_at(&self, _buf: &[u8], _offset: u64) -> io::Result<usize> {
+        Err(io::Error::from(ErrorKind::Unsupported))
     }
 }
 
 #[test]
 fn goes_on_after_a_short_read(rt: HostRuntime) -> Result<(), Fail> {
-    let mut reader = b"abc".as_slice().chain(b"defg".as_slice());
+    let file = Pieces(b"abcdefg");
     let mut out = [b'.'; 5];
-    assert_eq!(rt; read_full(&mut reader, &mut out)?, 5);
+    assert_eq!(rt; read_full_at(&file, 0, &mut out)?, 5);
     assert_eq!(rt; out, *b"abcde");
-    assert_eq!(rt; read_full(&mut reader, &mut out)?, 2);
+    assert_eq!(rt; read_full_at(&file, 5, &mut out)?, 2);
     assert_eq!(rt; out, *b"fgcde");
-    let mut reader = b"abc".as_slice().chain(Broken);
-    assert!(rt; read_full(&mut reader, &mut out).is_err());
+    assert!(rt; read_full_at(&file, 8, &mut out).is_err());
     Ok(())
 }
 

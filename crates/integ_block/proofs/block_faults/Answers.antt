@@ -1,4 +1,5 @@
 use Rattle.std.proofs.Common.{ℕ, ◌≡◌, ◌≤◌, true, false, List, [], ◌++◌, length, Some, None, refl, sym, ◌∙◌, ap, subst}
+use Rattle.std.proofs.lemmas.Bool.{not-false, not-true}
 use Rattle.std.proofs.Common.{arith, append_assoc, length-append}
 use Rattle.std.specs.Prelude.{map, not, Bool, Option, SomeIff}
 use Rattle.std.specs.List.{list_any}
@@ -104,17 +105,9 @@ module _ (g : Over) (c : In_ok-head g) where
 
 -- ---- a block of which a kind of the head ends the reading
 
-not_false : (t : Bool) → not t ≡ false → t ≡ true
-not_false true h = refl
-not_false false h = absurd (cc)
-
-not_true : (t : Bool) → not t ≡ true → t ≡ false
-not_true true h = absurd (cc)
-not_true false h = refl
-
 ended : (g : Over) (c : In_ok-head g) → not c.in_ok-head.head.is_end ≡ false
     → list_any ends (head (h g c) (path g c) (v g c) (bytes g c)) ≡ true
-ended g c h = sym (head-end g c) ∙ not_false c.in_ok-head.head.is_end h
+ended g c h = sym (head-end g c) ∙ not-false c.in_ok-head.head.is_end h
 
 pub returns-in_default-clause-told : goal.returns-in_default-clause-told
 returns-in_default-clause-told g c =
@@ -171,7 +164,7 @@ returns-in_default-2-clause-children g c =
 
 going : (g : Over) (c : In_ok-head g) → not c.in_ok-head.head.is_end ≡ true
     → list_any ends (head (h g c) (path g c) (v g c) (bytes g c)) ≡ false
-going g c h = sym (head-end g c) ∙ not_true c.in_ok-head.head.is_end h
+going g c h = sym (head-end g c) ∙ not-true c.in_ok-head.head.is_end h
 
 pub returns-in_ok-count-in-Some-clause-told : goal.returns-in_ok-count-in-Some-clause-told
 returns-in_ok-count-in-Some-clause-told g c =

@@ -67,6 +67,7 @@ pub returns-clause-few : goal.returns-clause-few
 returns-clause-few g c =
     let state = c.in_ok-step.ensures.state in
     let size : most_of_block (state_of c.step.new.self).header ≤ 1495561 = omega (arith, state.limits.block_to) in
-    let blocks : (state_of c.step.new.self).header.total ≤ 1048576 = omega (arith, state.limits.total_to, state.limits.limit_to) in
+    let blocks : (state_of c.step.new.self).header.total ≤ 1048576 =
+    omega (arith, state.limits.total_to, state.limits.limit_to) in
     let most = mul-le-mul blocks size in
     omega (arith, c.into_seen.ensures.faults, state.few, most)

@@ -18,5 +18,6 @@ loop-i-preserved c =
     let same = ap (λ p. record_size p (item e)) c.loop-i.invariant.2 in (
       omega (arith, more, same, c.loop-i.invariant.0),
       omega arith,
-      c.as_slice-previous.ensures.value ∙ sym (key_behind-take c.args.list.now c.loop-i.i e (omega arith) c.index-list-i.is),
+      c.as_slice-previous.ensures.value ∙ sym (key_behind-take c.args.list.now c.loop-i.i e (omega arith)
+          c.index-list-i.is),
     )

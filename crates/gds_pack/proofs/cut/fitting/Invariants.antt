@@ -5,4 +5,5 @@ use Rattle.gds_pack.proofs.cut.fitting.Given as goal
 
 abbrev pub invariant-loop-i : goal.invariant-loop-i
 invariant-loop-i l =
-    (l.size ≡ packed_size (items (take l.i l.list))) × (l.size ≤ l.limit) × (l.previous ≡ key_behind [] (items (take l.i l.list)))
+    (l.size ≡ packed_size (items (take l.i l.list))) × (l.size ≤ l.limit)
+    × (l.previous ≡ key_behind [] (items (take l.i l.list)))

@@ -1,4 +1,5 @@
-use Rattle.gds_pack.proofs.ReadLemmas.{IsBlock-block_bytes, used_of-block_bytes, records_of-block_bytes, entries_of-block_bytes}
+use Rattle.gds_pack.proofs.ReadLemmas.{IsBlock-block_bytes, used_of-block_bytes, records_of-block_bytes}
+use Rattle.gds_pack.proofs.ReadLemmas.{entries_of-block_bytes}
 use Rattle.gds_pack.proofs.laws.block_read.Goals as goal
 
 pub returns-clause-is_block : goal.returns-clause-is_block

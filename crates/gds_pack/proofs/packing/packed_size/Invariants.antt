@@ -6,4 +6,5 @@ use Rattle.gds_pack.proofs.packing.packed_size.Given as goal
 abbrev pub invariant-loop-entry : goal.invariant-loop-entry
 invariant-loop-entry l =
     (l.size ≤ 2 ^ 64 - 1)
-    × (min (l.size + records_size l.previous (items (drop l.entry-index l.list))) (2 ^ 64 - 1) ≡ min (packed_size (items l.list)) (2 ^ 64 - 1))
+    × (min (l.size + records_size l.previous (items (drop l.entry-index l.list))) (2 ^ 64 - 1)
+    ≡ min (packed_size (items l.list)) (2 ^ 64 - 1))

@@ -13,5 +13,6 @@ returns-clause-written c =
     let i = item c.args.entry.now in
     record_put c.args.previous.now i c.args.at count body c.as_slice-rest.result.now c.args.out.now _ _ _ _
     (c.shared_len-count.ensures.value ∙ ap (shared c.args.previous.now) c.as_slice.ensures.value)
-    (between_to_end key count (length key) (omega arith) ∙ ap (drop count) c.as_slice-2.ensures.value) c.as_slice-rest.ensures.value c.requires.fits
+    (between_to_end key count (length key) (omega arith) ∙ ap (drop count) c.as_slice-2.ensures.value)
+    c.as_slice-rest.ensures.value c.requires.fits
     c.put_u16.ensures c.put_u16-2.ensures c.put_bytes.ensures c.put_bytes-2.ensures

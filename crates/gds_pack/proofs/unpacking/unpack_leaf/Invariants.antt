@@ -12,7 +12,8 @@ invariant-loop-view l = record {
   next : (goal.iterator-loop-view).can_next l.view-iterator;
   finite : (goal.iterator-loop-view).is_finite l.view-iterator;
   ends : end_of l.end l.view-iterator ≡ end_of 16 (records_of l.block);
-  so_far : option_map (λ is. items l.entries.items ++ is) (leaf_items (key_behind [] (items l.entries.items)) l.view-iterator) ≡ leaf_items [] (records_of l.block);
+  so_far : option_map (λ is. items l.entries.items ++ is)
+      (leaf_items (key_behind [] (items l.entries.items)) l.view-iterator) ≡ leaf_items [] (records_of l.block);
   fronts : HasOpenFronts (key_behind [] (items l.entries.items));
   placed : All (StandsIn l.block) l.view-iterator;
 }

@@ -1,4 +1,4 @@
-use Rattle.std.proofs.Common.{◌≡◌, ◌+◌, ◌-◌, ◌<◌, List, ℕ, length, get_or, take, drop, ap, subst, arith}
+use Rattle.std.proofs.Common.{◌+◌, ◌-◌, ◌<◌, List, ℕ, length, get_or, take, drop, ap, subst, arith}
 use Rattle.std.proofs.lemmas.Bool.{OnTrue_from, OnTrue_at}
 use Rattle.integ_quick.proofs.FollowLemmas.{HasFew, Follows-next, AreSubscripts-slice}
 use Rattle.integ_quick.proofs.leaf.Leaf.takes_next.Goals as goal

@@ -1,5 +1,6 @@
-use Rattle.std.proofs.Common.{◌≡◌, ◌<◌, ℕ, Bool, true, false, not, List, [], ◌∷◌, ◌++◌, refl, sym, ap}
+use Rattle.std.proofs.Common.{◌≡◌, ◌<◌, ℕ, true, false, List, [], ◌∷◌, ◌++◌, refl, sym, ap}
 use Rattle.std.proofs.Common.{subst, ◌∙◌, arith, length-append}
+use Rattle.std.proofs.lemmas.Bool.{not-true, not-false}
 use Rattle.std.proofs.lemmas.Result.{err_from_is_err_and}
 use Rattle.gds_header.specs.Fields.{block_of}
 use Rattle.gds_law.specs.Block.{faults_of_block}
@@ -17,14 +18,6 @@ use Rattle.integ_walk.proofs.StateLemmas.{on_front, on_past, on_entered, on_ente
 use Rattle.integ_walk.proofs.walker.Walker.follow.Given.{Over}
 use Rattle.integ_walk.proofs.walker.Walker.follow.Goals as goal
 use Rattle.integ_walk.proofs.walker.Walker.follow.Goals.{In_ok-enter}
-
-not_true : (b : Bool) → not b ≡ true → b ≡ false
-not_true true h = absurd (cc)
-not_true false h = refl
-
-not_false : (b : Bool) → not b ≡ false → b ≡ true
-not_false true h = refl
-not_false false h = absurd (cc)
 
 -- ---- what the calls need
 
@@ -60,7 +53,7 @@ module _ (g : Over) (c : In_ok-enter g) where
   bytes = c.enter.new.self.block.items
 
   free : has_block s.used link.child.visit.block ≡ false
-  free = not_true _ (sym c.insert-is_new.ensures.is_new ∙ c.if-is_new.true)
+  free = not-true _ (sym c.insert-is_new.ensures.is_new ∙ c.if-is_new.true)
 
   visit : visit_of c.into_at.result.visit ≡ link.child.visit
   visit = ap visit_of c.into_at.ensures.visit
@@ -118,7 +111,7 @@ returns-in_err-enter-clause-on g c x tells kept reached start ak ar on =
     let now = g.F.FaultSink.listed c.args.sink.now in
     let new = g.F.FaultSink.listed c.enter.new.sink in
     let free : has_block s.used link.child.visit.block ≡ false =
-    not_true _ (sym c.insert-is_new.ensures.is_new ∙ c.if-is_new.true) in
+    not-true _ (sym c.insert-is_new.ensures.is_new ∙ c.if-is_new.true) in
     let visit : visit_of c.into_at.result.visit ≡ link.child.visit = ap visit_of c.into_at.ensures.visit in
     let due : faults_of_block s.header c.into_at.result.path (visit_of c.into_at.result.visit)
     (block_of x c.into_at.result.visit.block)
@@ -134,7 +127,7 @@ returns-in_err-enter-clause-on g c x tells kept reached start ak ar on =
 
 module _ (g : Over) (c : goal.After-self-1 g) where
   taken : has_block (state_of c.args.self.now).used (link_of c.args.link).child.visit.block ≡ true
-  taken = not_false _ (sym c.insert-is_new.ensures.is_new ∙ c.if-is_new.false)
+  taken = not-false _ (sym c.insert-is_new.ensures.is_new ∙ c.if-is_new.false)
 
   same : (b : ℕ) → has_block c.insert-is_new.new.self.bytes.items b ≡ has_block (state_of c.args.self.now).used b
   same = with_same (state_of c.args.self.now).used c.insert-is_new.new.self.bytes.items

@@ -4,7 +4,8 @@ use Rattle.std.proofs.Math.Seq.{take-append_seam}
 use Rattle.host_model.specs.Units.{unit_bytes}
 use Rattle.gds_header.specs.declared.header.Header.{Header}
 use Rattle.integ_walk.proofs.ResultLemmas.{on_ok}
-use Rattle.integ_walk.proofs.UnitLemmas.{is_unit, unit_is}
+use Rattle.gds_law.proofs.UnitLemmas.{unit_is}
+use Rattle.integ_walk.proofs.UnitLemmas.{is_unit}
 use Rattle.integ_walk.proofs.walker.Walker.read.Goals as goal
 
 pub unit-requires : goal.unit-requires

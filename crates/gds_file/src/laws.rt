@@ -1,0 +1,40 @@
+ghost use Rattle.gds_file.specs.FileLaws.{DirectoryChanges, EntryComes, EntryGoes, GlobalChanges, NoTreeChanges};
+ghost use Rattle.gds_file.specs.FileLaws.{StampKeepsTrees};
+ghost use Rattle.gds_file.specs.MapLaws.{MapsAreRightInTwoParts};
+ghost use Rattle.gds_file.specs.ReshapeLaws.{NothingReshapes, ReshapesCompose, ReshapesInAnyOrder, ReshapesWithMore};
+ghost use Rattle.gds_file.specs.SameLaws.{SameCarriesOver};
+
+/// A file that is the same as a sound one, but for what stands in blocks that were never used, is sound with the same
+/// trees and stands for the same map.
+pub fn same_carries_over()
+    ensures { SameCarriesOver }
+{}
+
+/// Maps are right for a file's trees exactly where they are lawful and call busy what is in use.
+pub fn maps_in_two_parts()
+    ensures { MapsAreRightInTwoParts }
+{}
+
+/// Changes of blocks, one after another and side by side.
+pub fn reshapes()
+    ensures nothing { NothingReshapes }
+    ensures compose { ReshapesCompose }
+    ensures with_more { ReshapesWithMore }
+    ensures any_order { ReshapesInAnyOrder }
+{}
+
+/// A sound file stays sound where it only grows, where the tree of the directory or of one global becomes another sound
+/// one, and where an entry of the directory comes or goes with its global's tree. Nothing but the blocks of these trees
+/// changes, what is taken was free, and the maps are lawful.
+pub fn file_stays_sound()
+    ensures growing { NoTreeChanges }
+    ensures global { GlobalChanges }
+    ensures directory { DirectoryChanges }
+    ensures comes { EntryComes }
+    ensures goes { EntryGoes }
+{}
+
+/// Where a commit gives changed blocks the header's transaction number and adds 1 to the header's, all trees stay.
+pub fn stamp_keeps_trees()
+    ensures { StampKeepsTrees }
+{}

@@ -1,0 +1,5 @@
+pub mod Lawful
+pub mod RightBlock
+pub mod Below
+pub mod Keeps
+pub mod Around

@@ -1,0 +1,9 @@
+//! Laws about one tree of a file: which blocks are right, what stands below them, and what a change of a tree leaves
+//! sound. They have no code; each is a function whose contract is the law.
+#![tactic(auto)]
+
+mod block_laws;
+mod tree_laws;
+
+pub use block_laws::{block_by_entries, packed_block, right_block, used_bytes};
+pub use tree_laws::{kept_tree, tree_by_entries, tree_content, trees_in_parts, widened_tree};
