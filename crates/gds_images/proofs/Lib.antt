@@ -1,4 +1,5 @@
 pub mod AgreeLemmas
+pub mod BufferLemmas
 pub mod ChainLemmas
 pub mod FrontLemmas
 pub mod GateLemmas

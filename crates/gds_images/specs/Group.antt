@@ -1,7 +1,8 @@
 -- The bytes of a group of images, as they are written behind its gate.
-use Rattle.std.specs.Prelude.{ℕ, ◌+◌, ◌==◌, List, [], ◌∷◌, ◌++◌, length, if◌then◌else◌}
+use Rattle.std.specs.Prelude.{◌≡◌, ℕ, zero, suc, ◌+◌, ◌^◌, ◌<◌, ◌==◌, All, List, [], ◌∷◌, ◌++◌, length, take, drop}
+use Rattle.std.specs.Prelude.{if◌then◌else◌}
 use Rattle.std.specs.List.{flat_map}
-use Rattle.gds_block.specs.Fields.{u32_bytes, u64_bytes}
+use Rattle.gds_block.specs.Fields.{u32_at, u64_at, u32_bytes, u64_bytes}
 use Rattle.gds_images.specs.declared.chain.Place.{Place}
 use Rattle.gds_images.specs.Chain.{first_gate}
 
@@ -38,3 +39,24 @@ places_from from [] = []
 places_from from (image ∷ images) =
     record { at = image.at; len = length image.bytes; from = from + 12 }
     ∷ places_from (from + 12 + length image.bytes) images
+
+-- The fields of an image hold where it belongs and how long it is.
+pub record HasFields (image : Image) : Type 0 where
+  pub at : image.at < 2 ^ 64
+  pub short : length image.bytes < 2 ^ 32
+
+-- The first images of which the bytes stand one behind the other, so many of them.
+abbrev pub images_in : ℕ → List ℕ → List Image
+images_in zero bytes = []
+images_in (suc n) bytes =
+    let len = u32_at bytes 8 in
+    record { at = u64_at bytes 0; bytes = take len (drop 12 bytes) } ∷ images_in n (drop (12 + len) bytes)
+
+-- How images wait in memory: behind room for the front of their group, and with the closed gate that will stand behind
+-- them.
+abbrev pub front_room : ℕ
+front_room = 16
+
+pub record IsBuffer (count : ℕ) (bytes : List ℕ) : Type 0 where
+  pub images : drop front_room bytes ≡ images_bytes (images_in count (drop front_room bytes)) ++ 0 ∷ []
+  pub fields : All HasFields (images_in count (drop front_room bytes))

@@ -7,11 +7,13 @@
 mod chain;
 mod error;
 mod fields;
+mod group;
 mod laws;
 mod reading;
 
 pub use chain::{Chain, Place, Places};
 pub use error::ImagesError;
+pub use group::{Group, append_group, close_gate, open_gate};
 pub use laws::{
     ends_at_its_gate, lays_back_itself, lays_over_outside, needs_its_epoch, opens_to_group,
     rest_is_found, same_is_equivalence,
