@@ -55,7 +55,8 @@ module _ (images : List ℕ) (n : ℕ) (chain : Chain) (ok : chain_of images n �
       (chain_of_cases images n chain ok)
 
   closes : Closes images (u64_at images 17) (25 + u64_at images 9) chain
-  closes = chain_closes (length images) images (u64_at images 17) opened.places (25 + u64_at images 9) chain opened.behind
+  closes =
+      chain_closes (length images) images (u64_at images 17) opened.places (25 + u64_at images 9) chain opened.behind
 
   pub epoch_low : chain.epoch_length ≤ n
   epoch_low = let low = opened.epoch in let same = closes.same_epoch in omega arith
@@ -104,7 +105,8 @@ module _ (images : List ℕ) (n : ℕ) (chain : Chain) (ok : chain_of images n �
   pub laid_back_is : (some : List ℕ) (db : List ℕ)
       → laid_back some chain db ≡ take chain.epoch_length (laid some chain.images db)
   laid_back_is some db =
-      ap (λ t. cond t db (take chain.epoch_length (laid some chain.images db))) (ne_eqb chain.next_gate first_gate not_first)
+      ap (λ t. cond t db (take chain.epoch_length (laid some chain.images db)))
+      (ne_eqb chain.next_gate first_gate not_first)
 
   pub found_open : (db : List ℕ) → chain.epoch_length ≤ length db
       → recovered db images ≡ Some (trimmed (take chain.epoch_length (laid images chain.images db)))

@@ -1,12 +1,13 @@
 -- What an opening finds of what a stop of an earlier one has left.
 use Rattle.std.proofs.Common.{◌≡◌, ◌≢◌, ℕ, ◌+◌, ◌-◌, ◌<◌, ◌≤◌, List, [], ◌∷◌, ◌++◌, length, take, drop, slice_index}
-use Rattle.std.proofs.Common.{Some, Ok, refl, sym, ap, cond, eqb, ◌∙◌, ⊎_elim, arith, length-take, length-drop, get_or-take}
-use Rattle.std.proofs.Common.{get_or-drop, length-append}
-use Rattle.std.specs.Prelude.{nat_eq}
+use Rattle.std.proofs.Common.{Some, Ok, refl, sym, ap, cond, eqb, ◌∙◌, ⊎_elim, arith, length-take, length-drop}
+use Rattle.std.proofs.Common.{get_or-take}
+use Rattle.std.proofs.Common.{append_assoc, get_or-drop, length-append}
+use Rattle.std.specs.Prelude.{nat_eq, slice_set}
 use Rattle.std.specs.Cmp.Lexicographic.{pointwise}
 use Rattle.std.proofs.Math.Seq.{drop-cons, take-add, take-append_seam}
 use Rattle.std.proofs.lemmas.Bool.{cases_eq}
-use Rattle.std.proofs.lemmas.List.{ext_get_or}
+use Rattle.std.proofs.lemmas.List.{ext_get_or, set-get_or, set-set, set_split}
 use Rattle.std.proofs.lemmas.Slice.Eq.{bytes_eq-Decides}
 use Rattle.gds_block.specs.Fields.{u64_at}
 use Rattle.host_model.specs.declared.host.FileNo.TheVariants.{Db, Images}
@@ -19,8 +20,9 @@ use Rattle.gds_images.specs.Laws.{IsCovered}
 use Rattle.gds_images.specs.Outcome.{IsClosed}
 use Rattle.gds_images.specs.Recovered.{laid, recovered, recovered_by, trimmed}
 use Rattle.gds_images.proofs.ChainLemmas.{Begins, IsClosedChain, IsOpenChain, chain_closed, chain_of_cases}
+use Rattle.gds_images.proofs.RestLemmas.{closed_chain}
 use Rattle.gds_images.proofs.GateLemmas.{chain_closes}
-use Rattle.gds_recovery.specs.Found.{EndsReading, FindsSame, IsOpened}
+use Rattle.gds_recovery.specs.Found.{EndsReading, FindsSame, HasNothingToDo, IsOpened}
 use Rattle.gds_recovery.specs.Steps.{IsAtEpoch, LaysOver}
 use Rattle.gds_recovery.proofs.EpochLemmas.{epoch_file_outside, epoch_low, found_open, laid_back_is, length-epoch_file}
 use Rattle.gds_recovery.proofs.EpochLemmas.{open_beside, same_epoch_file}
@@ -34,12 +36,13 @@ FindsSame-then a b c first second =
     record { found = second.found ∙ first.found; said = second.said ∙ first.said }
 
 -- What is opened of the second, or can't be read, is so of the first.
-pub opened_before : (a b : Contents) (header : Header) (now : Contents) → FindsSame a b → IsOpened b header now
-    → IsOpened a header now
-opened_before a b header now same opened = record {
+pub opened_before : (a b : Contents) (header : Header) (now : Contents) → FindsSame a b
+    → b.images ≡ slice_set a.images first_gate 0 → IsOpened b header now → IsOpened a header now
+opened_before a b header now same images opened = record {
   found = sym same.found ∙ opened.found;
   whole = opened.whole;
   fields = opened.fields;
+  images = opened.images ∙ ap (λ xs. slice_set xs first_gate 0) images ∙ set-set a.images first_gate 0 0;
   closed = opened.closed;
 }
 
@@ -84,6 +87,17 @@ written_closed a begins =
     ap (λ n. take n (take 8 a ++ 0 ∷ [] ++ drop 9 a)) (sym nine) ∙ take-append_seam (take 8 a ++ 0 ∷ []) (drop 9 a)
     ∙ ap (λ xs. xs ++ 0 ∷ []) (sym is_label)
 
+-- That changes no other byte.
+pub written_gate : (a : List ℕ) → 9 ≤ length a → written first_gate (0 ∷ []) a ≡ slice_set a first_gate 0
+written_gate a long = append_assoc (take 8 a) (0 ∷ []) (drop 9 a) ∙ sym (set_split a 8 0 (omega arith))
+
+-- Closing a closed file changes nothing.
+pub closed_again : (a : List ℕ) → slice_index a 8 ≡ 0 → slice_set a first_gate 0 ≡ a
+closed_again a zero = ap (slice_set a 8) (sym zero) ∙ set-get_or a 8 0
+
+pub closed_byte : (a : List ℕ) → IsClosed a → slice_index a 8 ≡ 0
+closed_byte a closed = sym (get_or-take 9 a 8 0 (omega arith)) ∙ ap (λ xs. slice_index xs 8) closed
+
 -- and so is one whose gate is
 pub begins_closed : (a : List ℕ) → Begins a → slice_index a 8 ≡ 0 → IsClosed a
 begins_closed a begins closed =
@@ -103,15 +117,30 @@ pub epoch_at_rest : (c : Contents) (n : ℕ) (chain : Chain) → chain_of c.imag
     → chain.next_gate ≡ first_gate → IsAtEpoch chain c c
 epoch_at_rest c n chain ok first = ⊎_elim
     (λ (shut : IsClosedChain c.images chain). record {
-      db = ap (λ k. cond (eqb k first_gate) c.db (take chain.epoch_length (laid c.images chain.images c.db))) (sym first);
+      db = ap (λ k. cond (eqb k first_gate) c.db (take chain.epoch_length (laid c.images chain.images c.db)))
+          (sym first);
+      images = sym (closed_again c.images shut.closed);
       closed = begins_closed c.images shut.begins shut.closed;
     })
     (λ (opened : IsOpenChain c.images n chain).
-    let closes = chain_closes (length c.images) c.images (u64_at c.images 17) opened.places (25 + u64_at c.images 9) chain
+    let closes = chain_closes (length c.images) c.images (u64_at c.images 17) opened.places
+    (25 + u64_at c.images 9) chain
     opened.behind in
     let later = closes.later in
     absurd (omega arith))
     (chain_of_cases c.images n chain ok)
+
+-- Where there is nothing to do, and the chain is good, the gate is closed and the database file the recovered one.
+pub nothing_to_do : (c : Contents) (chain : Chain) → chain_of c.images (length c.db) ≡ Ok chain → HasNothingToDo c
+    → (chain.next_gate ≡ first_gate) × (recovered c.db c.images ≡ Some c.db)
+unfolding recovered
+nothing_to_do c chain ok nothing = ⊎_elim
+    (λ none. absurd (let some = ap (recovered_by c.db c.images) (sym ok) ∙ none in let no : ⊥ = cc in no))
+    (λ whole.
+    let both = sym ok ∙ closed_chain c.images (length c.db) whole.0 in
+    let is : chain ≡ record { epoch_length = 0; images = []; next_gate = first_gate } = cc in
+    (ap (λ (c : Chain). c.next_gate) is, whole.1))
+    nothing
 
 -- ---- An open gate.
 
@@ -130,7 +159,8 @@ module _ (c : Contents) (chain : Chain) (ok : chain_of c.images (length c.db) �
   being_laid_found d being =
       let low = epoch_low c.images (length c.db) chain ok not_first in
       record {
-        found = ap (recovered d.db) being.images ∙ found_open c.images (length c.db) chain ok not_first d.db being.reaches
+        found = ap (recovered d.db) being.images
+            ∙ found_open c.images (length c.db) chain ok not_first d.db being.reaches
             ∙ ap (λ file. Some (trimmed file)) (same_epoch_file c.images (length c.db) chain ok not_first d.db c.db
             being.reaches low being.outside)
             ∙ sym (found_open c.images (length c.db) chain ok not_first c.db low);

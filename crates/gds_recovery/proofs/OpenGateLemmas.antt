@@ -1,6 +1,7 @@
 -- Files of images that differ in the byte of an open gate 0 alone.
 use Rattle.std.proofs.Common.{◌≡◌, ◌≢◌, ℕ, zero, suc, ◌+◌, ◌-◌, ◌≤◌, cond, List, [], ◌∷◌, ◌++◌, length, take, drop}
-use Rattle.std.proofs.Common.{slice_index, Result, Ok, Err, refl, sym, ap, subst, ◌∙◌, ⊎_elim, arith, leb, eqb, get_or-drop}
+use Rattle.std.proofs.Common.{slice_index, Result, Ok, Err, refl, sym, ap, subst, ◌∙◌, ⊎_elim, arith, leb, eqb}
+use Rattle.std.proofs.Common.{get_or-drop}
 use Rattle.std.specs.Prelude.{All, nat_eq, not}
 use Rattle.std.specs.Cmp.Lexicographic.{pointwise}
 use Rattle.std.specs.Int.{w32, w64, from_le_bytes}
@@ -10,7 +11,8 @@ use Rattle.gds_block.specs.Fields.{u32_at, u64_at}
 use Rattle.host_model.specs.Disk.{written}
 use Rattle.gds_images.specs.declared.chain.Chain.{Chain}
 use Rattle.gds_images.specs.declared.chain.Place.{Place}
-use Rattle.gds_images.specs.Chain.{and_then, bad_field, bytes_of, chain_behind, chain_of, image_at, image_length, images_from}
+use Rattle.gds_images.specs.Chain.{and_then, bad_field, bytes_of, chain_behind, chain_of, image_at, image_length}
+use Rattle.gds_images.specs.Chain.{images_from}
 use Rattle.gds_images.specs.Chain.{images_up_to, label, unless, with_first}
 use Rattle.gds_images.specs.Recovered.{laid}
 use Rattle.gds_images.proofs.ChainLemmas.{IsOpenChain, open_chain_of}
@@ -68,8 +70,10 @@ module _ (a b : List ℕ) (both : IsOpenIn a b) where
       let next : ℕ → Result (List Place) ℕ = λ k. images_up_to n b epoch (at + 12 + k) (left - (12 + k)) in
       let rest : next (image_length b at) ≡ images_up_to n a epoch (at + 12 + image_length a at)
       (left - (12 + image_length a at)) =
-      ap next len ∙ images_behind n epoch (at + 12 + image_length a at) (left - (12 + image_length a at)) (omega arith) in
-      ap (λ r. cond (eqb left 0) (Ok []) (unless (bad_field b epoch at left) (and_then r (with_first (image_at b at))))) rest
+      ap next len
+      ∙ images_behind n epoch (at + 12 + image_length a at) (left - (12 + image_length a at)) (omega arith) in
+      ap (λ r. cond (eqb left 0) (Ok [])
+      (unless (bad_field b epoch at left) (and_then r (with_first (image_at b at))))) rest
       ∙ ap (λ r. cond (eqb left 0) (Ok []) (unless r (and_then (images_up_to n a epoch (at + 12 + image_length a at)
       (left - (12 + image_length a at))) (with_first (image_at b at))))) (field_behind epoch at left behind)
       ∙ ap (λ r. cond (eqb left 0) (Ok []) (unless (bad_field a epoch at left) (and_then (images_up_to n a epoch
@@ -94,7 +98,8 @@ module _ (a b : List ℕ) (both : IsOpenIn a b) where
       ≡ and_then (images_from a epoch (gate + 9) (u64_at a (gate + 1)))
       (λ more. chain_behind n a epoch (images ++ more) (gate + 9 + u64_at a (gate + 1))) =
       ap (λ k. and_then (images_from b epoch (gate + 9) k) (next k)) size
-      ∙ ap (λ r. and_then r (next (u64_at a (gate + 1)))) (group_behind epoch (gate + 9) (u64_at a (gate + 1)) (omega arith))
+      ∙ ap (λ r. and_then r (next (u64_at a (gate + 1))))
+      (group_behind epoch (gate + 9) (u64_at a (gate + 1)) (omega arith))
       ∙ ap (and_then (images_from a epoch (gate + 9) (u64_at a (gate + 1)))) next_same in
       ap (λ r. cond (not (leb (gate + 1) (length b))) (Err gate) (cond (eqb (slice_index b gate) 0) (Ok end)
       (cond (not (leb (gate + 1 + 8) (length b))) (Err (gate + 1)) r))) read
@@ -155,7 +160,8 @@ images_stand (suc n) file epoch at left places behind ok = ⊎_elim
     (λ (read : Reads n file epoch at left places).
     let len = image_length file at in
     let rest = images_stand n file epoch (at + 12 + len) (left - (12 + len)) read.more (omega arith) read.behind in
-    subst (λ xs. All StandsBehind xs) (sym read.all) (All-cons StandsBehind (image_at file at) read.more (omega arith) rest))
+    subst (λ xs. All StandsBehind xs) (sym read.all)
+    (All-cons StandsBehind (image_at file at) read.more (omega arith) rest))
     (images_cases n file epoch at left places ok)
 
 chain_stands : (n : ℕ) (file : List ℕ) (epoch : ℕ) (images : List Place) (gate : ℕ) (chain : Chain) → 9 ≤ gate

@@ -10,10 +10,10 @@ use Rattle.host_model.specs.Frames.{WasRead}
 use Rattle.host_model.specs.Moments.{EachLeft, LeavesOnly, LeavesTheSame}
 use Rattle.host_model.specs.Told.{TellsOn}
 use Rattle.host_model.proofs.FailureLemmas.{NeverFell-trans}
-use Rattle.host_model.proofs.FrameLemmas.{WasRead-refl, TellsOn-some, TellsOn-same, TellsOn-then}
-use Rattle.host_model.proofs.MomentLemmas.{LeavesTheSame-refl, same_only, then_more, weaker}
+use Rattle.host_model.proofs.FrameLemmas.{WasRead-refl, WasRead-then, TellsOn-some, TellsOn-same, TellsOn-then}
+use Rattle.host_model.proofs.MomentLemmas.{LeavesTheSame-refl, LeavesTheSame-trans, same_only, then_more, weaker}
 use Rattle.host_model.proofs.OutcomeLemmas.{is_changed}
-use Rattle.gds_recovery.specs.Found.{FindsSame}
+use Rattle.gds_recovery.specs.Found.{FindsSame, IsUnwritten}
 use Rattle.gds_recovery.specs.Steps.{StaysFound, WasChangedBy}
 use Rattle.gds_recovery.proofs.FoundLemmas.{FindsSame-refl, FindsSame-then}
 use Rattle.gds_recovery.proofs.WorkLemmas.{was_told}
@@ -24,6 +24,26 @@ tells_found : (a b : Option Contents) (R : Contents → Contents → Type 0) →
 tells_found None b R tells so = tt
 tells_found (Some c) None R tells so = absurd tells
 tells_found (Some c) (Some now) R tells so = so c now refl refl
+
+-- ---- Nothing is written.
+
+module _ {H : Type 0} {contents : H → Option Contents} {moment : H → ℕ} {left_since : H → ℕ → Contents → Type 0} where
+  pub unwritten_then : {old mid new : H} → IsUnwritten contents moment left_since old mid
+      → IsUnwritten contents moment left_since mid new → IsUnwritten contents moment left_since old new
+  unwritten_then {old} {mid} {new} first second = record {
+    told = second.told ∙ first.told;
+    crash = LeavesTheSame-trans moment left_since old mid new first.crash second.crash;
+  }
+
+  pub unwritten_reads : {counts : H → Failures} {old mid new : H} → WasRead contents counts old mid
+      → LeavesTheSame moment left_since old mid → WasRead contents counts mid new
+      → LeavesTheSame moment left_since mid new → IsUnwritten contents moment left_since old new
+  unwritten_reads {counts} {old} {mid} {new} read crash more more_crash = record {
+    told = more.told ∙ read.told;
+    crash = LeavesTheSame-trans moment left_since old mid new crash more_crash;
+  }
+
+-- ---- An opening finds the same.
 
 module _ {H : Type 0} {contents : H → Option Contents} {moment : H → ℕ} {counts : H → Failures}
     {left_since : H → ℕ → Contents → Type 0} where
@@ -54,6 +74,15 @@ module _ {H : Type 0} {contents : H → Option Contents} {moment : H → ℕ} {c
     failures = read.failures;
   }
 
+  -- calls that only read, and then more
+  pub stays_reads : {old mid new : H} → WasRead contents counts old mid → LeavesTheSame moment left_since old mid
+      → WasRead contents counts mid new → LeavesTheSame moment left_since mid new
+      → ForSome (contents old) (λ c. EachLeft moment left_since old (λ d. d ≡ c))
+      → StaysFound contents moment counts left_since old new
+  stays_reads {old} {mid} {new} read crash more more_crash stable =
+      stays_read (WasRead-then contents counts old mid new read more)
+      (LeavesTheSame-trans moment left_since old mid new crash more_crash) stable
+
   -- After them a crash leaves what the host tells.
   pub stable_read : {old new : H} → WasRead contents counts old new → LeavesTheSame moment left_since old new
       → ForSome (contents old) (λ c. EachLeft moment left_since old (λ d. d ≡ c))
@@ -65,7 +94,8 @@ module _ {H : Type 0} {contents : H → Option Contents} {moment : H → ℕ} {c
     (longer : (host : H) (t u : ℕ) (c : Contents) → t ≤ u → left_since host u c → left_since host t c)
     (now_left : (host : H) (c : Contents) → contents host ≡ Some c → left_since host (moment host) c) where
   -- calls of which each crash leaves what finds the same
-  pub stays : {old new : H} {R : Contents → Contents → Type 0} → WasChangedBy contents moment counts left_since R old new
+  pub stays : {old new : H} {R : Contents → Contents → Type 0}
+      → WasChangedBy contents moment counts left_since R old new
       → ForSome (contents old) (λ c. LeavesOnly moment left_since old new (FindsSame c))
       → StaysFound contents moment counts left_since old new
   stays {old} {new} {R} changed crash = record {

@@ -3,6 +3,7 @@ use Rattle.std.proofs.Common.{◌≡◌, ℕ, ◌<◌, ◌≤◌, cond, ltb, fal
 use Rattle.std.proofs.Common.{Option, None, Some, refl, sym, ap, subst, ◌∙◌, arith, lit≤, length-take, get_or-take}
 use Rattle.std.proofs.lemmas.Bool.{le-ltb, lt-ltb}
 use Rattle.std.proofs.lemmas.List.{ext_get_or, take-take, take_all}
+use Rattle.std.proofs.lemmas.Option.{same_Some}
 use Rattle.host_model.specs.declared.host.FileNo.TheVariants.{Db, Images}
 use Rattle.host_model.specs.Disk.{Changes, Cut}
 use Rattle.host_model.specs.Files.{Contents, with_file}
@@ -11,12 +12,14 @@ use Rattle.gds_header.specs.Kinds.{ending_kind, unreadable}
 use Rattle.gds_header.specs.declared.header.Header.{Header}
 use Rattle.gds_header.specs.declared.kind.HeaderKind.{HeaderKind}
 use Rattle.gds_header.specs.declared.kind.HeaderKind.TheVariants.{ShortFile, ShortHeader}
-use Rattle.gds_header.proofs.EndingLemmas.{ending_kind-readable, ending_kind-short, ending_kind-unreadable, fields_of-front}
+use Rattle.gds_header.proofs.EndingLemmas.{ending_kind-readable, ending_kind-short, ending_kind-unreadable}
+use Rattle.gds_header.proofs.EndingLemmas.{fields_of-front}
 use Rattle.gds_images.specs.Outcome.{IsAtRest, IsClosed, IsWhole}
 use Rattle.gds_images.specs.Recovered.{recovered, recovered_by, trimmed, trimmed_by}
 use Rattle.gds_images.proofs.RestLemmas.{closed_chain, rest_found}
 use Rattle.gds_recovery.specs.Found.{EndsReading, FindsSame, IsOpened, IsUnreadable}
 use Rattle.gds_recovery.specs.Steps.{IsReadable}
+use Rattle.gds_recovery.proofs.FoundLemmas.{closed_again, closed_byte}
 
 none_of : (o : Option HeaderKind) → ((kind : HeaderKind) → o ≡ Some kind → ⊥) → o ≡ None
 none_of None never = refl
@@ -123,6 +126,7 @@ module _ (header : Header) (c : Contents) (closed : IsClosed c.images) (readable
     found = found_trimmed;
     whole = trimmed_whole header c.db readable;
     fields = sym (header_same header c.db readable);
+    images = sym (closed_again c.images (closed_byte c.images closed));
     closed = closed;
   }
 
@@ -134,5 +138,13 @@ module _ (header : Header) (c : Contents) (closed : IsClosed c.images) (readable
         found = found_trimmed ∙ ap Some all;
         whole = subst IsWhole all (trimmed_whole header c.db readable);
         fields = readable.fields;
+        images = sym (closed_again c.images (closed_byte c.images closed));
         closed = closed;
       }
+
+  -- Where the file is the recovered one there is nothing to cut.
+  pub trimmed_already : recovered c.db c.images ≡ Some c.db → length c.db ≤ file_length_of header
+  trimmed_already found =
+      let same : take (file_length_of header) c.db ≡ c.db =
+      same_Some (take (file_length_of header) c.db) c.db (sym found_trimmed ∙ found) in
+      omega (arith, ap length same, length-take (file_length_of header) c.db)

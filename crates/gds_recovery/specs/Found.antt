@@ -1,12 +1,13 @@
 -- What an opening finds of two files, and that it goes on finding it while they are worked on.
-use Rattle.std.specs.Prelude.{◌≡◌, ◌⊎◌, ℕ, ◌<◌, ◌≤◌, List, Some}
+use Rattle.std.specs.Prelude.{◌≡◌, ◌⊎◌, ℕ, ◌<◌, ◌≤◌, List, Option, None, Some, slice_set}
 use Rattle.host_model.specs.Failures.{counted}
 use Rattle.host_model.specs.Files.{Contents}
-use Rattle.host_model.specs.Moments.{EachSince}
+use Rattle.host_model.specs.Moments.{EachSince, LeavesTheSame}
 use Rattle.gds_header.specs.Fields.{fields_of}
 use Rattle.gds_header.specs.Kinds.{ending_kind}
 use Rattle.gds_header.specs.declared.header.Header.{Header}
 use Rattle.gds_header.specs.declared.kind.HeaderKind.{HeaderKind}
+use Rattle.gds_images.specs.Chain.{first_gate}
 use Rattle.gds_images.specs.Outcome.{IsClosed, IsWhole}
 use Rattle.gds_images.specs.Recovered.{recovered}
 
@@ -15,11 +16,13 @@ pub record FindsSame (c d : Contents) : Type 0 where
   pub found : recovered d.db d.images ≡ recovered c.db c.images
   pub said : d.said ≡ c.said
 
--- The database file is what was recovered, a whole database with this header, and the gate is closed.
+-- The database file is what was recovered, a whole database with this header, and the file of images is as before, with
+-- gate 0 closed.
 pub record IsOpened (c : Contents) (header : Header) (now : Contents) : Type 0 where
   pub found : recovered c.db c.images ≡ Some now.db
   pub whole : IsWhole now.db
   pub fields : header ≡ fields_of now.db
+  pub images : now.images ≡ slice_set c.images first_gate 0
   pub closed : IsClosed now.images
 
 -- A fault ends the reading of the file's header.
@@ -32,6 +35,17 @@ pub record EndsReading (c : Contents) : Type 0 where
   pub file : List ℕ
   pub found : recovered c.db c.images ≡ Some file
   pub unreadable : IsUnreadable file
+
+-- No file can be recovered; or the gate is closed, and the database file is the recovered one.
+abbrev pub HasNothingToDo : Contents → Type 0
+HasNothingToDo c =
+    (recovered c.db c.images ≡ None) ⊎ (IsClosed c.images × (recovered c.db c.images ≡ Some c.db))
+
+-- Nothing was written: the host tells what it told, and crashes find no difference.
+pub record IsUnwritten {H : Type 0} (contents : H → Option Contents) (moment : H → ℕ)
+    (left_since : H → ℕ → Contents → Type 0) (old new : H) : Type 0 where
+  pub told : contents new ≡ contents old
+  pub crash : LeavesTheSame moment left_since old new
 
 -- Since the first two calls, which make both files stable, each crash leaves what is found as before, and until then
 -- nothing is new. Where there was no third call nothing is said of what comes after the second.

@@ -1,5 +1,5 @@
 -- What the parts of a recovery do to the two files.
-use Rattle.std.specs.Prelude.{◌≡◌, ℕ, ◌+◌, ◌<◌, ◌≤◌, ◌^◌, List, length, take, slice_index, Option, None}
+use Rattle.std.specs.Prelude.{◌≡◌, ℕ, ◌+◌, ◌<◌, ◌≤◌, ◌^◌, List, length, take, slice_index, slice_set, Option, None}
 use Rattle.std.specs.Option.{ForSome}
 use Rattle.host_model.specs.Failures.{Failures, NeverFell}
 use Rattle.host_model.specs.Files.{Contents}
@@ -8,6 +8,7 @@ use Rattle.host_model.specs.Told.{TellsOn}
 use Rattle.gds_header.specs.Fields.{fields_of, file_length_of}
 use Rattle.gds_header.specs.Kinds.{ending_kind}
 use Rattle.gds_header.specs.declared.header.Header.{Header}
+use Rattle.gds_images.specs.Chain.{first_gate}
 use Rattle.gds_images.specs.Laws.{IsCovered}
 use Rattle.gds_images.specs.Outcome.{IsClosed}
 use Rattle.gds_images.specs.Recovered.{laid_back}
@@ -24,8 +25,8 @@ pub record WasChangedBy {H : Type 0} (contents : H → Option Contents) (moment 
   pub crash : LeavesBy moment left_since step old new
   pub failures : NeverFell (counts old) (counts new)
 
--- A stretch of calls over a stable host: the next opening finds of what it tells, and of what a crash at any moment of it
--- leaves, what one before it would have found.
+-- A stretch of calls over a stable host: the next opening finds of what it tells, and of what a crash at any moment of
+-- it leaves, what one before it would have found.
 pub record StaysFound {H : Type 0} (contents : H → Option Contents) (moment : H → ℕ) (counts : H → Failures)
     (left_since : H → ℕ → Contents → Type 0) (old new : H) : Type 0 where
   pub told : TellsOn (contents old) (contents new) FindsSame
@@ -48,9 +49,10 @@ pub record LaysOver (places : List Place) (old new : List ℕ) : Type 0 where
   pub no_shorter : length old ≤ length new
   pub outside : (i : ℕ) → i < length old → (IsCovered places i → ⊥) → slice_index new i ≡ slice_index old i
 
--- The database file is that of the epoch, and the gate is closed.
+-- The database file is that of the epoch, and the file of images is as before, with gate 0 closed.
 pub record IsAtEpoch (chain : Chain) (c now : Contents) : Type 0 where
   pub db : now.db ≡ laid_back c.images chain c.db
+  pub images : now.images ≡ slice_set c.images first_gate 0
   pub closed : IsClosed now.images
 
 -- Nothing ends the reading of the file's header, and the file is as long as it says, or longer.

@@ -9,8 +9,7 @@ ghost use Rattle.gds_recovery.specs.Steps.{IsAtEpoch, IsReachable, StaysFound, W
 
 use crate::error::Trouble;
 use crate::laying::lay_images;
-use crate::stand_in::close_gate;
-use gds_images::Chain;
+use gds_images::{Chain, close_gate};
 use host_model::{FileNo, Host};
 
 /// Where gate 0 stands, which is the next gate where it is closed.
@@ -29,6 +28,7 @@ pub(crate) fn return_to_epoch<H: Host>(
     ensures stays { StaysFound H.told H.moment H.failures H.left_since host.old host.new }
     ensures at_epoch { OnOk result (ForSome (H.told host.old) (λ c.
         ForSome (H.told host.new) (IsAtEpoch chain.now c))) }
+    ensures closed { chain.now.next_gate ≡ first_gate → host.new ≡ host.old }
     ensures db_length { IfOk result (λ n. ForSome (H.told host.new) (λ c. n ≡ length c.db)) }
     ensures stable { OnOk result (ForSome (H.told host.new)
         (λ c. EachLeft H.moment H.left_since host.new (λ d. d ≡ c))) }

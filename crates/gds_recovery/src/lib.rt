@@ -6,7 +6,6 @@ mod error;
 mod laying;
 mod reading;
 mod recovery;
-mod stand_in;
 mod trimming;
 
 pub use error::RecoveryError;

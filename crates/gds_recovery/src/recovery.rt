@@ -1,11 +1,11 @@
-ghost use Rattle.std.specs.Prelude.{◌≡◌, None, IfErr, IfOk, OnOk};
+ghost use Rattle.std.specs.Prelude.{◌≡◌, None, IfErr, IfOk, IsErrOf, OnOk};
 ghost use Rattle.std.specs.Option.{ForSome};
 ghost use Rattle.host_model.specs.Failures.{NeverFell};
 ghost use Rattle.host_model.specs.Moments.{EachLeft};
 ghost use Rattle.host_model.specs.Told.{TellsOn};
 ghost use Rattle.gds_header.specs.Kinds.{IsWithinLimits};
 ghost use Rattle.gds_recovery.specs.Errors.{HasCause};
-ghost use Rattle.gds_recovery.specs.Found.{FindsSame, IsOpened, KeepsFound};
+ghost use Rattle.gds_recovery.specs.Found.{FindsSame, HasNothingToDo, IsOpened, IsUnwritten, KeepsFound};
 ghost use Rattle.gds_recovery.specs.Steps.{StaysFound};
 
 use crate::closing::return_to_epoch;
@@ -25,8 +25,8 @@ use std::alloc::Global;
 ///
 /// # Errors
 ///
-/// A file of images whose chain is bad is `BadImages`, and a recovered file whose header can't be read `Unsound`; nothing
-/// was laid back or trimmed then.  `Memory` comes before anything is written. After `WriteFault` the files want to be
+/// `BadImages` says where the chain of images is bad, and nothing is written then. `Unsound` says that the header of
+/// the recovered file can't be read. `Memory` comes before anything is written. After `WriteFault` the files want to be
 /// opened again.
 pub fn recover<H: Host>(alloc: Global, host: &mut H) -> Result<Header, RecoveryError>
     // What the file is then.
@@ -39,6 +39,12 @@ pub fn recover<H: Host>(alloc: Global, host: &mut H) -> Result<Header, RecoveryE
     // However it ends, the next opening finds the same, at each moment.
     ensures same { TellsOn (H.told host.old) (H.told host.new) FindsSame }
     ensures any_moment { ForSome (H.told host.old) (KeepsFound H.moment H.left_since host.old host.new) }
+
+    // Where memory runs out, or there is nothing to do, nothing is written.
+    ensures memory { IsErrOf result RecoveryError.Memory
+        → IsUnwritten H.told H.moment H.left_since host.old host.new }
+    ensures nothing_to_do { ForSome (H.told host.old) (λ c. HasNothingToDo c
+        → IsUnwritten H.told H.moment H.left_since host.old host.new) }
 
     ensures cause { IfErr result (HasCause (H.told host.old) (H.failures host.old) (H.failures host.new)) }
     ensures failures { NeverFell (H.failures host.old) (H.failures host.new) }
@@ -57,6 +63,10 @@ fn recover_stable<H: Host>(alloc: Global, host: &mut H) -> Result<Header, Recove
     ensures stable { OnOk result (ForSome (H.told host.new)
         (λ now. EachLeft H.moment H.left_since host.new (λ d. d ≡ now))) }
     ensures stays { StaysFound H.told H.moment H.failures H.left_since host.old host.new }
+    ensures memory { IsErrOf result RecoveryError.Memory
+        → IsUnwritten H.told H.moment H.left_since host.old host.new }
+    ensures nothing_to_do { ForSome (H.told host.old) (λ c. HasNothingToDo c
+        → IsUnwritten H.told H.moment H.left_since host.old host.new) }
     ensures cause { IfErr result (HasCause (H.told host.old) (H.failures host.old) (H.failures host.new)) }
 {
     let length = db_length(host)?;

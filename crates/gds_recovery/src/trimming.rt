@@ -4,8 +4,9 @@ ghost use Rattle.host_model.specs.Frames.{WasRead};
 ghost use Rattle.host_model.specs.Moments.{EachLeft, LeavesTheSame};
 ghost use Rattle.gds_header.specs.Kinds.{IsWithinLimits};
 ghost use Rattle.gds_images.specs.Outcome.{IsClosed};
+ghost use Rattle.gds_images.specs.Recovered.{recovered};
 ghost use Rattle.gds_recovery.specs.Errors.{HasCause, error_of};
-ghost use Rattle.gds_recovery.specs.Found.{EndsReading, IsOpened, IsUnreadable};
+ghost use Rattle.gds_recovery.specs.Found.{EndsReading, IsOpened, IsUnreadable, IsUnwritten};
 ghost use Rattle.gds_recovery.specs.Steps.{EachFile, IsReadable, StaysFound};
 
 use crate::closing::cut_to;
@@ -25,6 +26,8 @@ pub(crate) fn trim<H: Host>(host: &mut H, db_length: u64) -> Result<Option<Heade
         ForSome (H.told host.new) (IsOpened c header)))) }
     ensures limits { IfOk result (λ found. IfSome found IsWithinLimits) }
     ensures unsound { IfOk result (λ found. IfNone found (ForSome (H.told host.old) EndsReading)) }
+    ensures nothing_to_do { ForSome (H.told host.old) (λ c. recovered c.db c.images ≡ Some c.db
+        → IsUnwritten H.told H.moment H.left_since host.old host.new) }
     ensures stable { OnOk result (ForSome (H.told host.new)
         (λ c. EachLeft H.moment H.left_since host.new (λ d. d ≡ c))) }
     ensures cause { IfErr result (λ trouble. HasCause (H.told host.old) (H.failures host.old) (H.failures host.new)
@@ -48,6 +51,8 @@ fn trim_to<H: Host>(host: &mut H, header: &Header, db_length: u64) -> Result<(),
     ensures stays { StaysFound H.told H.moment H.failures H.left_since host.old host.new }
     ensures opened { OnOk result (ForSome (H.told host.old) (λ c.
         ForSome (H.told host.new) (IsOpened c header.now))) }
+    ensures nothing_to_do { ForSome (H.told host.old) (λ c. recovered c.db c.images ≡ Some c.db
+        → host.new ≡ host.old) }
     ensures stable { OnOk result (ForSome (H.told host.new)
         (λ c. EachLeft H.moment H.left_since host.new (λ d. d ≡ c))) }
     ensures cause { IfErr result (λ trouble. HasCause (H.told host.old) (H.failures host.old) (H.failures host.new)
@@ -63,7 +68,8 @@ fn trim_to<H: Host>(host: &mut H, header: &Header, db_length: u64) -> Result<(),
 /// The header of the database file, or none where a fault ends its reading.
 fn read_header<H: Host>(host: &mut H, db_length: u64) -> Result<Option<Header>, Trouble>
     requires { ForSome (H.told host.old) (λ c. db_length ≡ length c.db) }
-    ensures some { IfOk result (λ found. IfSome found (λ header. ForSome (H.told host.old) (λ c. IsReadable header c.db))) }
+    ensures some { IfOk result (λ found. IfSome found (λ header. ForSome (H.told host.old)
+        (λ c. IsReadable header c.db))) }
     ensures limits { IfOk result (λ found. IfSome found IsWithinLimits) }
     ensures none { IfOk result (λ found. IfNone found (ForSome (H.told host.old) (λ c. IsUnreadable c.db))) }
     ensures read { WasRead H.told H.failures host.old host.new }

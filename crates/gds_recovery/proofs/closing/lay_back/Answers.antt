@@ -1,18 +1,18 @@
 use Rattle.std.proofs.Common.{◌≡◌, [], ◌∷◌, length, take, Some, refl, sym, ap, subst, ◌∙◌, arith}
 use Rattle.std.proofs.lemmas.Option.{same_Some}
 use Rattle.host_model.specs.declared.host.FileNo.TheVariants.{Db, Images}
-use Rattle.host_model.specs.Disk.{Changes, Torn, Writes, written}
+use Rattle.host_model.specs.Disk.{Changes, Writes, written}
 use Rattle.host_model.specs.Files.{Contents, with_file}
 use Rattle.host_model.proofs.OutcomeLemmas.{is_changed, told_written}
 use Rattle.gds_images.specs.Chain.{first_gate}
 use Rattle.gds_images.specs.Recovered.{laid}
 use Rattle.gds_recovery.specs.Steps.{IsAtEpoch}
 use Rattle.gds_recovery.proofs.EpochLemmas.{all_within, epoch_low, laid_back_is, laid_long, open_beside}
-use Rattle.gds_recovery.proofs.FoundLemmas.{written_closed}
-use Rattle.gds_recovery.proofs.LayBackLemmas.{at_epoch, come_back, come_closed, come_cut_back, come_laid}
+use Rattle.gds_recovery.proofs.FoundLemmas.{written_closed, written_gate}
+use Rattle.gds_recovery.proofs.LayBackLemmas.{at_epoch, come_back, come_closed, come_cut_back, come_laid, stays_closed}
 use Rattle.gds_recovery.proofs.LayLemmas.{was_laid}
 use Rattle.gds_recovery.proofs.StayLemmas.{stays}
-use Rattle.gds_recovery.proofs.WorkLemmas.{changed_somehow, changed_then, was_told}
+use Rattle.gds_recovery.proofs.WorkLemmas.{changed_then, was_told}
 use Rattle.gds_recovery.proofs.closing.lay_back.Goals as goal
 
 pub lay_images-requires-clause-within : goal.lay_images-requires-clause-within
@@ -43,7 +43,8 @@ close_gate-requires g c x tells =
     (c.in_ok-lay_images.ensures.laid y is)) tells in
     let ok = c.requires.chain was.0 was.1 in
     let low = epoch_low was.0.images (length was.0.db) chain ok c.requires.open in
-    let gate = (open_beside was.0.images (length was.0.db) chain ok c.requires.open (length was.0.db) low).begins.gate in
+    let beside = open_beside was.0.images (length was.0.db) chain ok c.requires.open (length was.0.db) low in
+    let gate = beside.begins.gate in
     let same : length x.images ≡ length was.0.images = ap (λ (c : Contents). length c.images) was.2 in
     omega arith
 
@@ -74,45 +75,21 @@ pub returns-in_err-close_gate-clause-stays : goal.returns-in_err-close_gate-clau
 returns-in_err-close_gate-clause-stays g c =
     let h = g.H.Host in
     let l = g.met.H.Host in
-    let chain = c.args.chain.now in
-    let any = λ (x y : Contents). Unit {0} in
-    let closed = changed_somehow (Changes Images (Writes first_gate (0 ∷ []) c.close_gate.result))
-    (Changes Images (Torn first_gate 1)) c.close_gate.ensures.told c.close_gate.ensures.untold
-    c.close_gate.ensures.any_moment c.close_gate.ensures.failures in
-    let cut_back = changed_then l.longer any c.in_ok-lay_images.ensures.changed c.in_ok-cut_to.ensures.changed
-    (λ x y r. tt) (λ x y z r s. tt) in
-    stays {contents = h.told} l.longer l.now_left
-    (changed_then l.longer any cut_back closed (λ x y r. tt) (λ x y z r s. tt))
-    (λ x tells.
-    let ok = c.requires.chain x tells in
-    let first = come_laid l.longer x chain ok c.requires.open (c.requires.stable x tells)
-    c.in_ok-lay_images.ensures.changed.crash in
-    let second = come_cut_back l.longer x chain ok c.requires.open first c.in_ok-cut_to.ensures.changed.crash in
-    let back = come_back l.longer x chain ok c.requires.open second (c.in_ok-cut_to.ensures.settled
-    (with_file Db (laid x.images chain.images x.db) x) (c.in_ok-lay_images.ensures.laid x tells)) in
-    (come_closed l.longer x chain ok c.requires.open back c.close_gate.ensures.any_moment).only)
+    stays_closed {contents = h.told} l.longer l.now_left c.args.chain.now c.requires.open
+    (Changes Images (Writes first_gate (0 ∷ []) c.close_gate.result)) c.requires.chain c.requires.stable
+    c.in_ok-lay_images.ensures.changed c.in_ok-lay_images.ensures.laid c.in_ok-cut_to.ensures.changed
+    c.in_ok-cut_to.ensures.settled c.close_gate.ensures.told c.close_gate.ensures.untold
+    c.close_gate.ensures.any_moment c.close_gate.ensures.failures
 
 pub returns-clause-stays : goal.returns-clause-stays
 returns-clause-stays g c =
     let h = g.H.Host in
     let l = g.met.H.Host in
-    let chain = c.args.chain.now in
-    let any = λ (x y : Contents). Unit {0} in
-    let closed = changed_somehow (Changes Images (Writes first_gate (0 ∷ []) c.close_gate.result))
-    (Changes Images (Torn first_gate 1)) c.close_gate.ensures.told c.close_gate.ensures.untold
-    c.close_gate.ensures.any_moment c.close_gate.ensures.failures in
-    let cut_back = changed_then l.longer any c.in_ok-lay_images.ensures.changed c.in_ok-cut_to.ensures.changed
-    (λ x y r. tt) (λ x y z r s. tt) in
-    stays {contents = h.told} l.longer l.now_left
-    (changed_then l.longer any cut_back closed (λ x y r. tt) (λ x y z r s. tt))
-    (λ x tells.
-    let ok = c.requires.chain x tells in
-    let first = come_laid l.longer x chain ok c.requires.open (c.requires.stable x tells)
-    c.in_ok-lay_images.ensures.changed.crash in
-    let second = come_cut_back l.longer x chain ok c.requires.open first c.in_ok-cut_to.ensures.changed.crash in
-    let back = come_back l.longer x chain ok c.requires.open second (c.in_ok-cut_to.ensures.settled
-    (with_file Db (laid x.images chain.images x.db) x) (c.in_ok-lay_images.ensures.laid x tells)) in
-    (come_closed l.longer x chain ok c.requires.open back c.close_gate.ensures.any_moment).only)
+    stays_closed {contents = h.told} l.longer l.now_left c.args.chain.now c.requires.open
+    (Changes Images (Writes first_gate (0 ∷ []) c.close_gate.result)) c.requires.chain c.requires.stable
+    c.in_ok-lay_images.ensures.changed c.in_ok-lay_images.ensures.laid c.in_ok-cut_to.ensures.changed
+    c.in_ok-cut_to.ensures.settled c.close_gate.ensures.told c.close_gate.ensures.untold
+    c.close_gate.ensures.any_moment c.close_gate.ensures.failures
 
 pub returns-clause-at_epoch : goal.returns-clause-at_epoch
 returns-clause-at_epoch g c x tells y now =
@@ -126,10 +103,12 @@ returns-clause-at_epoch g c x tells y now =
     (c.in_ok-lay_images.ensures.laid x tells) in
     let closed = told_written Images first_gate (0 ∷ []) (h.told c.cut_to.new.host) (h.told c.close_gate.new.host)
     (at_epoch x chain) back c.in_ok-close_gate.ensures.told in
-    let is = same_Some (with_file Images (written first_gate (0 ∷ []) x.images) (at_epoch x chain)) y (sym closed ∙ now) in
+    let end = with_file Images (written first_gate (0 ∷ []) x.images) (at_epoch x chain) in
+    let is = same_Some end y (sym closed ∙ now) in
     subst (λ (z : Contents). IsAtEpoch chain x z) is
     (record {
       db = sym (laid_back_is x.images (length x.db) chain ok c.requires.open x.images x.db);
+      images = written_gate x.images beside.begins.gate;
       closed = written_closed x.images beside.begins;
     })
 

@@ -21,7 +21,8 @@ pub returns-clause-db_length : goal.returns-clause-db_length
 returns-clause-db_length g c y now =
     let h = g.H.Host in
     let chain = c.args.chain.now in
-    let was = was_told (h.told c.args.host.now) (h.told c.lay_back.new.host) y c.in_ok-lay_back.ensures.stays.untold now in
+    let was = was_told (h.told c.args.host.now) (h.told c.lay_back.new.host) y
+    c.in_ok-lay_back.ensures.stays.untold now in
     let x = was.0 in
     let ok = c.requires.chain x was.1 in
     let is = c.in_ok-lay_back.ensures.at_epoch x was.1 y now in

@@ -1,4 +1,4 @@
-use Rattle.std.proofs.Common.{◌≡◌, ◌+◌, Some, length, take, drop, arith, ◌∙◌}
+use Rattle.std.proofs.Common.{ℕ, ◌≡◌, ◌+◌, Some, length, take, drop, arith, ◌∙◌}
 use Rattle.std.proofs.Common.{ap, length-append, length-drop, length-take}
 use Rattle.host_model.specs.declared.host.FileNo.TheVariants.{Db}
 use Rattle.host_model.specs.Disk.{written}
@@ -53,16 +53,15 @@ loop-done-preserved g c =
       laid = λ x tells.
           let y = with_file Db (written place.at (take done (drop place.from x.images)) x.db) x in
           let whole = c.requires.within x tells in
-          let n : length (take c.min-size.result c.loop-done.buffer) ≡ c.min-size.result = omega arith in
+          let k = length (take c.min-size.result c.loop-done.buffer) in
+          let n : k ≡ c.min-size.result = omega arith in
           let full = whole.images in
           let low = whole.db in
+          let there : (at from n : ℕ) → Contents = λ at from n.
+          with_file Db (written (place.at + at) (take n (drop (place.from + from) x.images)) y.db) x in
           c.in_ok-lay_piece.ensures.laid y (c.loop-done.invariant.laid x tells)
-          ∙ ap (λ k. Some (with_file Db (written (place.at + k) (take (length (take c.min-size.result c.loop-done.buffer))
-          (drop (place.from + c.from.result) x.images)) y.db) x)) at
-          ∙ ap (λ k. Some (with_file Db (written (place.at + done) (take k (drop (place.from + c.from.result) x.images)) y.db)
-          x)) n
-          ∙ ap (λ k. Some (with_file Db (written (place.at + done) (take c.min-size.result (drop (place.from + k) x.images))
-          y.db) x)) from
+          ∙ ap (λ i. Some (there i c.from.result k)) at ∙ ap (λ i. Some (there done c.from.result i)) n
+          ∙ ap (λ i. Some (there done i c.min-size.result)) from
           ∙ ap (λ bytes. Some (with_file Db bytes x))
           (piece-then place.at place.from done c.min-size.result x.images x.db (omega arith) (omega arith));
     }

@@ -7,7 +7,8 @@ pub returns-then-file_length-clause-some : goal.returns-then-file_length-clause-
 returns-then-file_length-clause-some c file begins len =
     let test = c.if-file_length.true in
     let n = c.file_length.ensures in
-    read_readable c.in-Ok.header c.args.bytes.now file begins c.in-Ok.ensures.fields (c.in-Ok.ensures.file_ok file begins)
+    read_readable c.in-Ok.header c.args.bytes.now file begins c.in-Ok.ensures.fields
+    (c.in-Ok.ensures.file_ok file begins)
     (omega arith)
 
 pub returns-else-file_length-clause-none : goal.returns-else-file_length-clause-none

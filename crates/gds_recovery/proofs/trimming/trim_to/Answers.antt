@@ -5,14 +5,15 @@ use Rattle.host_model.specs.Disk.{Changes, Cut}
 use Rattle.host_model.specs.Files.{Contents, with_file}
 use Rattle.gds_recovery.specs.Found.{IsOpened}
 use Rattle.gds_recovery.proofs.StayLemmas.{stable_changed, stays_by, stays_none}
-use Rattle.gds_recovery.proofs.TrimLemmas.{trim_found, trim_opened, whole_opened}
+use Rattle.gds_recovery.proofs.TrimLemmas.{trim_found, trim_opened, trimmed_already, whole_opened}
 use Rattle.gds_recovery.proofs.trimming.trim_to.Goals as goal
 
 pub returns-in_err-cut_to-clause-stays : goal.returns-in_err-cut_to-clause-stays
 returns-in_err-cut_to-clause-stays g c =
     let l = g.met.H.Host in
     let n = c.file_length-length.result in
-    stays_by {contents = g.H.Host.told} l.longer l.now_left (Changes Db (Cut n)) c.requires.stable c.cut_to.ensures.changed
+    stays_by {contents = g.H.Host.told} l.longer l.now_left (Changes Db (Cut n)) c.requires.stable
+    c.cut_to.ensures.changed
     (λ x d tells step.
     trim_found c.args.header.now x (c.requires.closed x tells) (c.requires.readable x tells) d
     (subst (λ k. Changes Db (Cut k) x d) c.file_length-length.ensures step))
@@ -21,7 +22,8 @@ pub returns-in_ok-cut_to-clause-stays : goal.returns-in_ok-cut_to-clause-stays
 returns-in_ok-cut_to-clause-stays g c =
     let l = g.met.H.Host in
     let n = c.file_length-length.result in
-    stays_by {contents = g.H.Host.told} l.longer l.now_left (Changes Db (Cut n)) c.requires.stable c.cut_to.ensures.changed
+    stays_by {contents = g.H.Host.told} l.longer l.now_left (Changes Db (Cut n)) c.requires.stable
+    c.cut_to.ensures.changed
     (λ x d tells step.
     trim_found c.args.header.now x (c.requires.closed x tells) (c.requires.readable x tells) d
     (subst (λ k. Changes Db (Cut k) x d) c.file_length-length.ensures step))
@@ -52,3 +54,19 @@ returns-else-length-db_length-clause-opened g c x tells y now =
     let long = c.requires.db_length x tells in
     subst (λ (z : Contents). IsOpened x c.args.header.now z) same
     (whole_opened c.args.header.now x (c.requires.closed x tells) (c.requires.readable x tells) (omega arith))
+
+pub returns-in_err-cut_to-clause-nothing_to_do : goal.returns-in_err-cut_to-clause-nothing_to_do
+returns-in_err-cut_to-clause-nothing_to_do g c x tells found =
+    let short = trimmed_already c.args.header.now x (c.requires.closed x tells) (c.requires.readable x tells) found in
+    let test = c.if-length-db_length.true in
+    let length = c.file_length-length.ensures in
+    let long = c.requires.db_length x tells in
+    absurd (omega arith)
+
+pub returns-in_ok-cut_to-clause-nothing_to_do : goal.returns-in_ok-cut_to-clause-nothing_to_do
+returns-in_ok-cut_to-clause-nothing_to_do g c x tells found =
+    let short = trimmed_already c.args.header.now x (c.requires.closed x tells) (c.requires.readable x tells) found in
+    let test = c.if-length-db_length.true in
+    let length = c.file_length-length.ensures in
+    let long = c.requires.db_length x tells in
+    absurd (omega arith)
