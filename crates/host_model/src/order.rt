@@ -18,9 +18,9 @@ pub fn barrier<H: Host>(host: &mut H) -> Result<(), HostFailed>
         (λ now. EachLeft H.moment H.left_since host.new (λ c. c ≡ now))) }
     ensures told { H.told host.new ≡ H.told host.old }
     ensures same { LeavesTheSame H.moment H.left_since host.old host.new }
-    // Both syncs were called.
+    // Both syncs were called, or it ended before.
     ensures clock { OnOk result (H.moment host.new ≡ counted (counted (H.moment host.old))) }
-    ensures calls { H.moment host.new ≤ H.moment host.old + 2 }
+    ensures calls { H.moment host.new ≤ counted (counted (H.moment host.old)) }
     ensures failures { NeverFell (H.failures host.old) (H.failures host.new) }
     ensures failed { OnErr result (Rose (H.failures host.old).write (H.failures host.new).write) }
 {

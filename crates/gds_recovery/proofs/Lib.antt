@@ -1,0 +1,11 @@
+pub mod CauseLemmas
+pub mod EpochLemmas
+pub mod FoundLemmas
+pub mod LayBackLemmas
+pub mod LayLemmas
+pub mod OpenGateLemmas
+pub mod OverLemmas
+pub mod PieceLemmas
+pub mod StayLemmas
+pub mod TrimLemmas
+pub mod WorkLemmas
