@@ -18,6 +18,9 @@ use std::rt::Files;
 ///
 /// The file of before images has the same path with `.bi` at its end. A missing file has the length 0. A path
 /// that leads to what is no regular file, as a directory, fails each read.
+///
+/// A file is locked by the first call that opens it, until the host is dropped. Where another program holds it, unless
+/// both may only read it, the call fails.
 #[derive(Drop)]
 pub struct FileHost<'r, R: Files<File = File> + Print> {
     rt: &'r R,
