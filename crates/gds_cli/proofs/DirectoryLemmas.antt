@@ -1,14 +1,17 @@
 -- The directory of a file whose header is known, and the trees that it leads to.
-use Rattle.std.proofs.Common.{◌≡◌, ℕ, zero, suc, ◌+◌, ◌<◌, ◌≤◌, List, [], ◌∷◌, ◌++◌, length, take, get_or, map, flat_map, IsTrue, eqb, refl, sym, ap, subst, ◌∙◌, arith}
+use Rattle.std.proofs.Common.{◌≡◌, ℕ, zero, suc, ◌+◌, ◌<◌, ◌≤◌, List, [], ◌∷◌, ◌++◌, length, take, get_or, map}
+use Rattle.std.proofs.Common.{flat_map, IsTrue, eqb, refl, sym, ap, subst, ◌∙◌, arith}
 use Rattle.std.specs.List.{AllByRecursion, AllZip, IsDistinct}
 use Rattle.std.proofs.lemmas.Bool.Decides.{nat_tests}
 use Rattle.std.proofs.lemmas.List.{take_more, map-append}
 use Rattle.m_key.proofs.FillLemmas.{flat_map_map}
 use Rattle.gds_header.specs.declared.header.Header.{Header}
 use Rattle.gds_header.specs.Fields.{block_of}
-use Rattle.gds_cli.specs.Thin.{Valued, is_block_number, is_star_block, star_child, IsLeaf, IsGlobal, IsThin, root_of, leaf_of, blocks_of}
+use Rattle.gds_cli.specs.Thin.{Valued, is_block_number, is_star_block, star_child, IsLeaf, IsGlobal, IsThin, root_of}
+use Rattle.gds_cli.specs.Thin.{leaf_of, blocks_of}
 use Rattle.gds_cli.specs.SoundHeader.{IsHeaderOf}
-use Rattle.gds_cli.specs.Directory.{IsEntry, IsNodeOf, AreNodesOf, LeadsTo, AreTrees, AreLeaves, thin_tree_at, blocks_in}
+use Rattle.gds_cli.specs.Directory.{IsEntry, IsNodeOf, AreNodesOf, LeadsTo, AreTrees, AreLeaves, thin_tree_at}
+use Rattle.gds_cli.specs.Directory.{blocks_in}
 use Rattle.gds_cli.specs.Leaf.{IsLeafAt}
 use Rattle.gds_cli.specs.declared.thin.directory.ThinTree.{ThinTree}
 use Rattle.gds_cli.proofs.LeafLemmas.{one_leaf}

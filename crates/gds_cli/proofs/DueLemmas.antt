@@ -1,5 +1,6 @@
 -- Which reply is due, and how a call that says it ends.
-use Rattle.std.proofs.Common.{◌≡◌, ◌⊎◌, ℕ, Bool, true, false, List, [], take, Option, None, Some, IfSome, Result, Ok, Err, ⊎_elim, inl, inr, refl, sym, ap, subst, ◌∙◌, append-nil}
+use Rattle.std.proofs.Common.{◌≡◌, ◌⊎◌, ℕ, Bool, true, false, List, [], take, Option, None, Some, IfSome, Result, Ok}
+use Rattle.std.proofs.Common.{Err, ⊎_elim, inl, inr, refl, sym, ap, subst, ◌∙◌, append-nil}
 use Rattle.std.specs.Prelude.{MatchBool, IsSomeAnd}
 use Rattle.std.specs.Option.{ForSome}
 use Rattle.arrayvec.specs.ArrayVec.{ArrayVec}
@@ -18,7 +19,8 @@ use Rattle.gds_law.specs.declared.fault.Fault.{Fault}
 use Rattle.gds_law.specs.Faults.{AreFaults}
 use Rattle.gds_law.proofs.KeptLemmas.{one_fault_list}
 use Rattle.gds_cli.specs.Thin.{IsThinWith}
-use Rattle.gds_cli.specs.Answer.{Reply, Answers, SaysFront, Due, Ends, ExtractDue, FaultsDue, list_reply, not_built, is_break}
+use Rattle.gds_cli.specs.Answer.{Reply, Answers, SaysFront, Due, Ends, ExtractDue, FaultsDue, list_reply, not_built}
+use Rattle.gds_cli.specs.Answer.{is_break}
 use Rattle.gds_cli.specs.Extract.{BreaksOff, SaysThin}
 use Rattle.gds_cli.proofs.LeafLemmas.{one_map}
 

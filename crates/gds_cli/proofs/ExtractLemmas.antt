@@ -1,5 +1,6 @@
 -- Thin files as a whole: which reply is due, and what was said of it.
-use Rattle.std.proofs.Common.{◌≡◌, ℕ, Bool, false, List, [], ◌∷◌, ◌++◌, take, flat_map, codes, IsTrue, Option, Some, Result, Err, ⊎_elim, refl, sym, ap, subst, ◌∙◌}
+use Rattle.std.proofs.Common.{◌≡◌, ℕ, Bool, false, List, [], ◌∷◌, ◌++◌, take, flat_map, codes, IsTrue, Option, Some}
+use Rattle.std.proofs.Common.{Result, Err, ⊎_elim, refl, sym, ap, subst, ◌∙◌}
 use Rattle.std.specs.List.{starts_with, AllZip}
 use Rattle.std.specs.Prelude.{nat_eq}
 use Rattle.std.specs.FinMap.{entries, from_sorted}

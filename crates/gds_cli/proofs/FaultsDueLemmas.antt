@@ -1,5 +1,6 @@
 -- How a list of faults is said, and what it tells of the file.
-use Rattle.std.proofs.Common.{◌≡◌, ◌⊎◌, ℕ, Bool, true, false, List, [], ◌∷◌, ◌++◌, ◌≤◌, length, take, drop, flat_map, take_all, append_assoc, Option, Some, Result, Ok, ⊎_elim, refl, sym, ap, subst, ◌∙◌}
+use Rattle.std.proofs.Common.{◌≡◌, ◌⊎◌, ℕ, Bool, true, false, List, [], ◌∷◌, ◌++◌, ◌≤◌, length, take, drop, flat_map}
+use Rattle.std.proofs.Common.{take_all, append_assoc, Option, Some, Result, Ok, ⊎_elim, refl, sym, ap, subst, ◌∙◌}
 use Rattle.std.specs.Prelude.{MatchBool}
 use Rattle.std.specs.Option.{ForSome}
 use Rattle.host_model.specs.Failures.{Failures}

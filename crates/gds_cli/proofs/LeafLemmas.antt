@@ -1,5 +1,6 @@
 -- Laws of leaves and of thin files: one list of nodes at most, which rises, and one map at most.
-use Rattle.std.proofs.Common.{ℕ, ◌≡◌, Bool, true, false, ◌&&◌, T, List, [], ◌∷◌, ◌++◌, true≢false, refl, sym, ◌∙◌, ap, ap₂, subst, flat_map, is_lt, nat_cmp, Ordering, Less, Equal, Greater}
+use Rattle.std.proofs.Common.{ℕ, ◌≡◌, Bool, true, false, ◌&&◌, T, List, [], ◌∷◌, ◌++◌, refl, sym, ◌∙◌, ap}
+use Rattle.std.proofs.Common.{ap₂, subst, flat_map, is_lt, nat_cmp, Ordering, Less, Equal, Greater}
 use Rattle.std.specs.Ordering.{ordering_then}
 use Rattle.std.specs.List.{AllByRecursion, AllZip}
 use Rattle.std.specs.Cmp.Lexicographic.{slice_cmp}
@@ -12,6 +13,7 @@ use Rattle.m_key.specs.Collation.{subscript_cmp, reference_cmp}
 use Rattle.m_key.specs.Globals.{Globals, Place, place_cmp}
 use Rattle.m_key.proofs.KeyLemmas.{order}
 use Rattle.m_key.proofs.NumberLemmas.{numbers}
+use Rattle.m_number.proofs.OrderingLemmas.{Less-is_lt}
 use Rattle.gds_block.specs.Record.{Record, records_of}
 use Rattle.gds_header.specs.declared.header.Header.{Header}
 use Rattle.gds_cli.specs.Thin.{Valued, AreRecordsOf, IsLeaf, IsGlobal, IsThin, IsThinWith}
@@ -43,11 +45,6 @@ one_leaf h block vs ws a b = one_list h [] (records_of block) vs ws a.records b.
 abbrev pub Rises : List Valued → Type 0
 Rises [] = Unit {0}
 Rises (v ∷ vs) = AllByRecursion (λ w. place_cmp v.0 w.0 ≡ Less) vs × Rises vs
-
-is_less : (o : Ordering) → is_lt o ≡ true → o ≡ Less
-is_less Less h = refl
-is_less Equal h = absurd (true≢false (sym h))
-is_less Greater h = absurd (true≢false (sym h))
 
 both : (a b : Bool) → T a → T b → T (a && b)
 both true b p q = q
@@ -113,7 +110,7 @@ keys_above h key [] (v ∷ vs) a = absurd a
 keys_above h key (r ∷ rs) [] a = absurd a
 keys_above h key (r ∷ rs) (v ∷ vs) (a, more) =
     let own = key_bytes v.0.node in
-    let first = is_less (slice_cmp nat_cmp key own) a.above in (
+    let first = Less-is_lt (slice_cmp nat_cmp key own) a.above in (
       first,
       weaker (λ w. slice_cmp nat_cmp own (key_bytes w.0.node) ≡ Less)
           (λ w. slice_cmp nat_cmp key (key_bytes w.0.node) ≡ Less) vs

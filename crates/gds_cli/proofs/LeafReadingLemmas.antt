@@ -1,15 +1,14 @@
 -- Reading a leaf record by record: one record has one node, and what is known of the nodes so far.
-use Rattle.std.proofs.Common.{ℕ, zero, suc, ◌≡◌, ◌+◌, ◌≤◌, List, [], ◌∷◌, ◌++◌, length, take, drop, inl, inr, refl, sym, ◌∙◌, ap, subst, arith, append_assoc, append-nil, length-take, length-drop, sum_by, Option, None, Some, Result, Ok, Err, IfNone, IfOk}
+use Rattle.std.proofs.Common.{ℕ, zero, suc, ◌≡◌, ◌+◌, ◌≤◌, List, [], ◌∷◌, ◌++◌, length, take, drop, inl, inr, refl, sym}
+use Rattle.std.proofs.Common.{◌∙◌, ap, subst, arith, append_assoc, append-nil, length-take, length-drop, sum_by, Option}
+use Rattle.std.proofs.Common.{None, Some, Result, Ok, Err, IfNone, IfOk}
 use Rattle.std.proofs.lemmas.Bool.{cases_lt, cond_both}
-use Rattle.std.proofs.lemmas.Cmp.{tied_itself}
 use Rattle.std.proofs.lemmas.List.{take_at, drop_at, take-append-le, take-append-drop}
 use Rattle.std.proofs.lemmas.List.Sums.{sum_by-cons}
 use Rattle.m_key.specs.Node.{Node, IsNode}
 use Rattle.m_key.specs.Key.{key_bytes}
-use Rattle.m_key.specs.Collation.{reference_cmp}
-use Rattle.m_key.specs.Globals.{Place}
 use Rattle.m_key.proofs.KeyLemmas.{none_begins}
-use Rattle.m_key.proofs.PlaceLemmas.{place_total, place_same}
+use Rattle.m_key.proofs.PlaceLemmas.{same_place}
 use Rattle.m_key.proofs.NumberLemmas.{numbers}
 use Rattle.gds_block.specs.Block.{used_of, level_of, IsBlock}
 use Rattle.gds_block.specs.Record.{Record, size_of, is_well_sized, first_record, records_up_to, records_of, bytes_left}
@@ -36,16 +35,13 @@ one_node a b x y p q e =
       | inr h ↦ sym (begun_key b a y x q p h (sym e))
     ]
 
-pub one_place : (p q : Place) → p.node ≡ q.node → p ≡ q
-one_place p q e = place_same p q (ap (reference_cmp p.node) (sym e) ∙ tied_itself place_total p)
-
 -- a record behind a key is of one node and value
 pub one_record : (h : Header) (previous : List ℕ) (r : Record) (v w : Valued) → IsRecordOf h previous r v
     → IsRecordOf h previous r w → v ≡ w
 one_record h previous r v w a b =
     let same = sym a.bytes ∙ b.bytes in
     let node = one_node v.0.node w.0.node v.1 w.1 v.0.right w.0.right same in
-    let place = one_place v.0 w.0 node in
+    let place = same_place v.0 w.0 node in
     let value : v.1 ≡ w.1 =
     sym (drop_at (key_bytes v.0.node) v.1 (length (key_bytes v.0.node)) refl)
     ∙ ap (drop (length (key_bytes v.0.node))) same

@@ -1,66 +1,23 @@
 -- One record of a leaf: where its key ends, and whether the key may follow the one before.
-use Rattle.std.proofs.Common.{ℕ, suc, ◌≡◌, ◌↔◌, ap₂, drop-cons, ◌+◌, ◌≤◌, ◌<◌, Bool, true, false, List, [], ◌∷◌, ◌++◌, length, get_or, take, drop, Option, None, Some, refl, sym, ◌∙◌, ap, arith, append_assoc, append-nil, length-append, length-take, flat_map, true≢false, is_lt, nat_cmp, Ordering}
-use Rattle.std.specs.Prelude.{◌==◌, nat_eq, nat_lt, option_map}
+use Rattle.std.proofs.Common.{ℕ, ◌≡◌, ◌↔◌, ap₂, drop-cons, ◌+◌, ◌≤◌, ◌<◌, Bool, true, false, List, [], ◌∷◌, ◌++◌}
+use Rattle.std.proofs.Common.{length, get_or, take, drop, Option, None, Some, refl, sym, ◌∙◌, ap, arith}
+use Rattle.std.proofs.Common.{append-nil, length-take, true≢false, is_lt, nat_cmp, Ordering}
+use Rattle.std.specs.Prelude.{nat_eq, nat_lt, option_map}
 use Rattle.std.specs.Ordering.{ordering_then}
 use Rattle.std.specs.Cmp.Lexicographic.{slice_cmp}
 use Rattle.std.proofs.Math.Seq.{take-append-add}
-use Rattle.std.proofs.lemmas.Bool.{ne_eqb, iff_false}
+use Rattle.std.proofs.lemmas.Bool.{iff_false}
 use Rattle.std.proofs.lemmas.Bool.Decides.{nat_tests}
 use Rattle.std.proofs.lemmas.List.{take_at, take-append-drop, drop_all}
-use Rattle.std.proofs.lemmas.List.Elements.{recursion_from_All}
-use Rattle.m_key.specs.Node.{Node, NodeSubscript, IsSubscript, IsNode, is_word}
-use Rattle.m_key.specs.Key.{subscript_bytes, ended, key_bytes}
-use Rattle.m_key.specs.KeyEnd.{end_in, zero_after, shared}
-use Rattle.m_key.proofs.KeyEndLemmas.{shared-le, take-shared, end_in-append_open, end_in-take_less}
-use Rattle.m_key.proofs.ZeroLemmas.{NoZero, cmp-prefix}
-use Rattle.m_key.proofs.KeyLemmas.{Right, key-is, ended-more, NoZero-subscript, NoZero-name, begun}
-use Rattle.m_key.proofs.NumberLemmas.{numbers}
+use Rattle.m_key.specs.Node.{Node, IsNode}
+use Rattle.m_key.specs.Key.{key_bytes}
+use Rattle.m_key.specs.KeyEnd.{key_len, end_within, shared}
+use Rattle.m_key.proofs.KeyEndLemmas.{shared-le, take-shared, key_within-end_within, key_len-take_less}
+use Rattle.m_key.proofs.KeyEndLemmas.{key_len-take_more}
+use Rattle.m_key.proofs.NodeEndLemmas.{key_len-key_bytes}
+use Rattle.m_key.proofs.ZeroLemmas.{cmp-prefix}
 use Rattle.gds_block.specs.Record.{Record}
 use Rattle.gds_cli.specs.Leaf.{IsSplit}
-
--- ---- the end of a key
-
-step : (z : Bool) (b m : ℕ) (bytes : List ℕ) → 0 < b → end_in false bytes ≡ Some m → end_in z (b ∷ bytes) ≡ Some (suc m)
-step true b m bytes h e = let t : (b == 0) ≡ false = ne_eqb b 0 (λ f. omega (arith, f)) in rw (t, e) refl
-step false b m bytes h e = let t : (b == 0) ≡ false = ne_eqb b 0 (λ f. omega (arith, f)) in rw (t, e) refl
-
--- bytes without a zero, ended by one
-part : (z : Bool) (xs rest : List ℕ) (m : ℕ) → NoZero xs → 0 < length xs → end_in true rest ≡ Some m
-    → end_in z (xs ++ 0 ∷ rest) ≡ Some (length xs + 1 + m)
-part z [] rest m n h e = absurd (omega arith)
-part z (x ∷ []) rest m n h e = step z x (suc m) (0 ∷ rest) n.0 (rw e refl) ∙ ap Some (omega arith)
-part z (x ∷ y ∷ xs) rest m n h e =
-    step z x (length (y ∷ xs) + 1 + m) ((y ∷ xs) ++ 0 ∷ rest) n.0 (part false (y ∷ xs) rest m n.1 (omega arith) e)
-    ∙ ap Some (omega arith)
-
-parts : (ss : List NodeSubscript) (rest : List ℕ) → Right ss
-    → end_in true (flat_map ended ss ++ 0 ∷ rest) ≡ Some (length (flat_map ended ss) + 1)
-parts [] rest h = refl
-parts (s ∷ ss) rest h =
-    let b = begun numbers s h.0 in
-    let some : 0 < length (subscript_bytes s) = omega (arith, ap length b.is) in
-    ap (end_in true) (ended-more s ss (0 ∷ rest))
-    ∙ part true (subscript_bytes s) (flat_map ended ss ++ 0 ∷ rest) (length (flat_map ended ss) + 1)
-    (NoZero-subscript numbers s h.0) some (parts ss rest h.1)
-    ∙ ap Some (omega (arith, length-append (ended s) (flat_map ended ss), length-append (subscript_bytes s) (0 ∷ [])))
-
-word_some : (bs : List ℕ) → is_word bs ≡ true → 0 < length bs
-word_some [] h = absurd (true≢false (sym h))
-word_some (b ∷ bs) h = omega arith
-
--- a node's key has its first two neighbouring zero bytes at its end
-pub one_end : (n : Node) (rest : List ℕ) → IsNode n → end_in false (key_bytes n ++ rest) ≡ Some (length (key_bytes n))
-one_end n rest p =
-    let subs = flat_map ended n.subscripts in
-    let bytes : key_bytes n ++ rest ≡ n.name ++ 0 ∷ (subs ++ 0 ∷ rest) =
-    ap (λ l. l ++ rest) (key-is n) ∙ append_assoc n.name (0 ∷ (subs ++ 0 ∷ [])) rest
-    ∙ ap (λ l. n.name ++ 0 ∷ l) (append_assoc subs (0 ∷ []) rest) in
-    let long : length (key_bytes n) ≡ length n.name + 1 + (length subs + 1) =
-    omega (arith, ap length (key-is n), length-append n.name (0 ∷ (subs ++ 0 ∷ [])), length-append subs (0 ∷ [])) in
-    ap (end_in false) bytes
-    ∙ part false n.name (subs ++ 0 ∷ rest) (length subs + 1) (NoZero-name numbers n p) (word_some n.name p.name.word)
-    (parts n.subscripts rest (recursion_from_All IsSubscript n.subscripts p.subscripts))
-    ∙ ap Some (sym long)
 
 -- ---- the next key
 
@@ -174,29 +131,29 @@ module _ (most : ℕ) (previous : List ℕ) (r : Record) (n : Node) (value : Lis
       ap (λ m. take m previous) s.exact ∙ take-shared previous (key_bytes n)
       ∙ ap (λ m. take m (key_bytes n)) (sym s.exact)
 
-  key_ends : end_in false (key_bytes n) ≡ Some (length (key_bytes n))
-  key_ends = ap (end_in false) (sym (append-nil (key_bytes n))) ∙ one_end n [] node
+  key_ends : key_len (key_bytes n) ≡ Some (length (key_bytes n))
+  key_ends = ap key_len (sym (append-nil (key_bytes n))) ∙ key_len-key_bytes n [] node
 
-  open_front : end_in false (take r.count previous) ≡ None
-  open_front =
-      ap (end_in false) same_front
-      ∙ end_in-take_less (key_bytes n) false (length (key_bytes n)) r.count key_ends shorter
+  front-open : key_len (take r.count previous) ≡ None
+  front-open =
+      ap key_len same_front ∙ key_len-take_less (key_bytes n) r.count (length (key_bytes n)) key_ends shorter
 
   -- where the key ends in the body
-  ends : (end : ℕ) × (end_in (zero_after false (take r.count previous)) r.body ≡ Some end)
+  ends : (end : ℕ) × (end_within most (take r.count previous) r.body ≡ Some end)
       × (length (take r.count previous) + end ≡ length (key_bytes n))
   ends =
-      some_at (end_in (zero_after false (take r.count previous)) r.body) (length (take r.count previous))
+      some_at (end_within most (take r.count previous) r.body) (length (take r.count previous))
       (length (key_bytes n))
-      (sym (end_in-append_open (take r.count previous) r.body false open_front)
-      ∙ ap (end_in false) s.bytes ∙ one_end n value node)
+      (sym (key_within-end_within most (take r.count previous) r.body front-open)
+      ∙ key_len-take_more (take r.count previous ++ r.body) most (length (key_bytes n))
+      (ap key_len s.bytes ∙ key_len-key_bytes n value node) s.within)
 
-  pub not_endless : None ≡ end_in (zero_after false (take r.count previous)) r.body → ⊥
+  pub not_endless : None ≡ end_within most (take r.count previous) r.body → ⊥
   not_endless e =
       let both : None ≡ Some ends.0 = e ∙ ends.1 in
       absurd (cc)
 
-  pub known : (end : ℕ) → Some end ≡ end_in (zero_after false (take r.count previous)) r.body
+  pub known : (end : ℕ) → Some end ≡ end_within most (take r.count previous) r.body
       → Known previous r (key_bytes n) end
   known end e =
       let both : Some end ≡ Some ends.0 = e ∙ ends.1 in

@@ -1,18 +1,22 @@
 -- When a file's header has no fault, from its first bytes and its length.
-use Rattle.std.proofs.Common.{◌≡◌, ℕ, ◌<◌, ◌≤◌, ◌^◌, Bool, true, false, not, ◌&&◌, ◌||◌, cond, ltb, eqb, leb, List, [], ◌∷◌, ◌++◌, length, take, drop, Option, Some, None, IfSome, IfNone, refl, sym, ap, subst, ◌∙◌, ⊎_elim, arith, lit≤}
+use Rattle.std.proofs.Common.{◌≡◌, ℕ, ◌<◌, ◌^◌, Bool, true, false, not, ◌&&◌, ◌||◌, cond, ltb, eqb, leb, List, []}
+use Rattle.std.proofs.Common.{◌∷◌, ◌++◌, length, take, Option, Some, None, IfSome, refl, sym, ap}
+use Rattle.std.proofs.Common.{◌∙◌, ⊎_elim, arith, lit≤}
 use Rattle.std.specs.Prelude.{find, filter, slice_range}
 use Rattle.std.specs.List.{list_any}
 use Rattle.std.proofs.lemmas.List.Folds.{list_any-append}
-use Rattle.std.proofs.lemmas.Bool.{or_parts, and_parts, cases_Bool, le-ltb}
+use Rattle.std.proofs.lemmas.Bool.{or_parts, and_parts, cases_Bool, le-ltb, not-true}
 use Rattle.std.proofs.lemmas.Bool.Decides.{nat_tests}
-use Rattle.std.proofs.lemmas.List.{take-take}
-use Rattle.std.proofs.lemmas.Slice.{between_is}
 use Rattle.gds_header.specs.declared.header.Header.{Header}
 use Rattle.gds_header.specs.Fields.{fields_of, file_length_of}
 use Rattle.gds_header.specs.declared.kind.HeaderKind.{HeaderKind}
-use Rattle.gds_header.specs.declared.kind.HeaderKind.TheVariants.{ShortHeader, NotDatabase, BlockSizeNotMultiple, BlockSizeTooLarge, NoBlocks, BadLimit, ShortFile, LongFile, ReservedByte, BadTransactionNumber}
-use Rattle.gds_header.specs.Kinds.{IsWithinLimits, holds, ends, kinds, through_first, header_faults, ending_kind, reserved_bytes, has_free, groups_past}
-use Rattle.gds_header.proofs.EndingLemmas.{fields_of-front, ending_kind-short}
+use Rattle.gds_header.specs.declared.kind.HeaderKind.TheVariants.{ShortHeader, NotDatabase, BlockSizeNotMultiple}
+use Rattle.gds_header.specs.declared.kind.HeaderKind.TheVariants.{BlockSizeTooLarge, NoBlocks, BadLimit, ShortFile}
+use Rattle.gds_header.specs.declared.kind.HeaderKind.TheVariants.{LongFile, ReservedByte, BadTransactionNumber}
+use Rattle.gds_header.specs.Kinds.{IsWithinLimits, holds, ends, kinds, through_first, header_faults, ending_kind}
+use Rattle.gds_header.specs.Kinds.{reserved_bytes, has_free, groups_past}
+use Rattle.gds_header.proofs.EndingLemmas.{fields_of-front, ending_kind-none, ending_kind-short}
+use Rattle.gds_header.proofs.EndingLemmas.{reserved_bytes-front}
 use Rattle.gds_cli.specs.SoundHeader.{IsHeaderOf, are_zeros, is_clear, is_faultless}
 
 -- where nothing is left of the front up to the first that ends, no kind holds
@@ -42,11 +46,6 @@ none_left ending holding (x ∷ xs) none others =
     (cases_Bool (ending x)))
     (λ (e : holding x ≡ false). rw e (none_left ending holding xs (rw e at none) parts.1))
     (cases_Bool (holding x))
-
--- where a header has no fault, none ends its reading
-pub ends_none : (d : List ℕ) → header_faults d ≡ [] → ending_kind d ≡ None
-unfolding ending_kind
-ends_none d none = ap (find ends) none
 
 -- the kinds that could be read past
 record Past (d : List ℕ) : Type 0 where
@@ -84,17 +83,6 @@ none_past d none past = none_left ends (holds d) kinds none (rw (past.long, past
 
 -- ---- what a header and its bytes say of the file that they are at the front of
 
-range_front : (a b k : ℕ) (xs : List ℕ) → b ≤ k → slice_range (take k xs) a b ≡ slice_range xs a b
-range_front a b k xs within =
-    between_is (take k xs) a b ∙ ap (drop a) (take-take b k xs within) ∙ sym (between_is xs a b)
-
-reserved_front : (k : ℕ) (xs : List ℕ) → 8192 ≤ k → reserved_bytes (take k xs) ≡ reserved_bytes xs
-reserved_front k xs within =
-    let first = range_front 36 40 k xs (omega arith) in
-    let second = range_front 48 4096 k xs (omega arith) in
-    let third = range_front 4352 8192 k xs (omega arith) in
-    λ i. first i ++ second i ++ third i
-
 equal_test : (a b : ℕ) → ltb a b ≡ false → ltb b a ≡ false → eqb a b ≡ true
 equal_test a b first second = grind (arith, nat_tests)
 
@@ -107,10 +95,6 @@ number_test t most fine = (grind (arith, nat_tests), grind (arith, nat_tests))
 number_of_test : (t most : ℕ) → leb 1 t ≡ true → leb t most ≡ true → (eqb t 0 || ltb most t) ≡ false
 number_of_test t most low high = grind (arith, nat_tests)
 
-not_true : (b : Bool) → not b ≡ true → b ≡ false
-not_true true is = sym is
-not_true false is = refl
-
 -- whether a byte or a bit that must be 0 isn't
 marked : Header → List ℕ → Bool
 marked h bytes = list_any (λ b. not (eqb b 0)) bytes || list_any (has_free h) (groups_past h)
@@ -119,7 +103,7 @@ marked_in : (h : Header) (d front : List ℕ) → take 8192 d ≡ front → fiel
     → holds d ReservedByte ≡ marked h (reserved_bytes front)
 unfolding marked
 marked_in h d front begins fields =
-    let bytes = sym (reserved_front 8192 d (lit≤ tt)) ∙ ap reserved_bytes begins in
+    let bytes = sym (reserved_bytes-front 8192 d (lit≤ tt)) ∙ ap reserved_bytes begins in
     λ i. list_any (λ b. not (eqb b 0)) (bytes i) || list_any (has_free (fields i)) (groups_past (fields i))
 
 zeros_unmarked : (xs : List ℕ) → are_zeros xs ≡ not (list_any (λ b. not (eqb b 0)) xs)
@@ -166,7 +150,7 @@ module _ (h : Header) (d front : List ℕ) (size : ℕ) (begins : take 8192 d �
       let none : ltb (length d) (file_length_of h) ≡ false = le-ltb _ _ (omega arith) in
       let past : Past d = record {
         long = ap (λ (k : Header). ltb (file_length_of k) (length d)) fields ∙ le-ltb _ _ (omega arith);
-        reserved = marked_in h d front begins fields ∙ not_true _ (sym (clear_is h front) ∙ second.0);
+        reserved = marked_in h d front begins fields ∙ not-true _ (sym (clear_is h front) ∙ second.0);
         number =
             ap (λ (k : Header). eqb k.tn 0 || ltb (2 ^ 63) k.tn) fields ∙ number_of_test h.tn (2 ^ 63) third.0 third.1;
       } in
@@ -195,20 +179,13 @@ module _ (h : Header) (d front : List ℕ) (size : ℕ) (begins : take 8192 d �
       cc
 
 pub no_ending : (d : List ℕ) (kind : HeaderKind) → ending_kind d ≡ Some kind → header_faults d ≡ [] → ⊥
-no_ending d kind ends_so none = let nothing = ends_none d none in cc
+no_ending d kind ends_so none = let nothing = ending_kind-none d none in cc
 
 pub short_header : (d : List ℕ) → length d < 8192 → header_faults d ≡ [] → ⊥
 short_header d short = no_ending d ShortHeader (ending_kind-short d short)
 
 -- ---- what is told
 
-pub at_told : {A : Type 0} (told : Option A) (P : A → Type 0) (c : A) → told ≡ Some c → IfSome told P → P c
-at_told {A} told P c tells known = let Q : Option A → Type 0 = λ o. IfSome o P in subst Q tells known
-
 pub some_weaker : {T : Type 0} (o : Option T) (A B : T → Type 0) → ((x : T) → A x → B x) → IfSome o A → IfSome o B
 some_weaker None A B so known = tt
 some_weaker (Some x) A B so known = so x known
-
-pub none_weaker : {T : Type 0} (o : Option T) (A B : Type 0) → (A → B) → IfNone o A → IfNone o B
-none_weaker None A B so known = so known
-none_weaker (Some x) A B so known = tt

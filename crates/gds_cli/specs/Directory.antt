@@ -4,7 +4,8 @@ use Rattle.std.specs.List.{AllByRecursion, AllZip, IsDistinct}
 use Rattle.gds_header.specs.declared.header.Header.{Header}
 use Rattle.gds_header.specs.Fields.{fields_of, block_of}
 use Rattle.gds_cli.specs.SoundHeader.{IsHeaderOf}
-use Rattle.gds_cli.specs.Thin.{Valued, is_block_number, is_star_block, star_child, IsLeaf, IsGlobal, IsThin, root_of, leaf_of, blocks_of}
+use Rattle.gds_cli.specs.Thin.{Valued, is_block_number, is_star_block, star_child, IsLeaf, IsGlobal, IsThin, root_of}
+use Rattle.gds_cli.specs.Thin.{leaf_of, blocks_of}
 use Rattle.gds_cli.specs.declared.thin.directory.ThinTree.{ThinTree}
 
 -- the block is a star block, and these are the number and the bytes of the block that it leads to

@@ -1,7 +1,8 @@
 -- Thin files: the directory is a single leaf, and so is each global. Which pairs of files are thin, and the globals
 -- that
 -- they stand for.
-use Rattle.std.specs.Prelude.{ℕ, ◌≡◌, ◌≤◌, ◌<◌, ◌+◌, ◌%◌, Bool, ◌&&◌, ◌==◌, nat_eq, nat_lt, not, IsTrue, List, [], ◌∷◌, ◌++◌, length, sum_by, flat_map, codes}
+use Rattle.std.specs.Prelude.{ℕ, ◌≡◌, ◌≤◌, ◌<◌, ◌+◌, ◌%◌, Bool, ◌&&◌, ◌==◌, nat_eq, nat_lt, not, IsTrue, List, [], ◌∷◌}
+use Rattle.std.specs.Prelude.{◌++◌, length, sum_by, flat_map, codes}
 use Rattle.std.specs.List.{starts_with, AllByRecursion, AllZip, IsDistinct}
 use Rattle.std.specs.Ordering.{nat_cmp, is_lt}
 use Rattle.std.specs.Cmp.Lexicographic.{slice_cmp}

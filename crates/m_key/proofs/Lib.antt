@@ -9,3 +9,4 @@ pub mod CollationLemmas
 pub mod KeyEndLemmas
 pub mod KeyPartLemmas
 pub mod UnescapeLemmas
+pub mod NodeEndLemmas

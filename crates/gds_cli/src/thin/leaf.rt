@@ -12,7 +12,7 @@ ghost use Rattle.gds_cli.specs.Leaf.{valued, IsSplit, IsListed};
 
 use gds_block::{BlockView, RecordView, u16_at, u32_at};
 use gds_header::Header;
-use m_key::{Key, Reference, end_in, ends_in_zero, join_key, reference_of};
+use m_key::{Key, Reference, end_within, join_key, reference_of};
 use std::alloc::{AllocError, Global};
 
 /// A node of a leaf and its value, which stays in the block.
@@ -107,10 +107,7 @@ fn split_record<'a>(key_max: u32, previous: &[u8], view: RecordView<'a>) -> Opti
         return None;
     }
     let front = &previous[..count];
-    let end = end_in(ends_in_zero(front), view.body)?;
-    if count + end > key_max as usize {
-        return None;
-    }
+    let end = end_within(front, view.body, key_max as usize)?;
     let (back, value) = view.body.split_at(end);
     let key = join_key(front, back);
     if is_next(previous, key.as_slice(), count) {

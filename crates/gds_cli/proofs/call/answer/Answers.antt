@@ -21,7 +21,8 @@ returns-in-Ok-Version-clause-host g c = record {
 pub returns-in-Ok-Extract-clause-host : goal.returns-in-Ok-Extract-clause-host
 returns-in-Ok-Extract-clause-host g c = record {
   told =
-      goes_extract _ _ (command_in c.args.words.now) c.in-Ok-Extract.stamp c.deref.result.now c.extract-status.result (cc) (cc)
+      goes_extract _ _ (command_in c.args.words.now) c.in-Ok-Extract.stamp c.deref.result.now c.extract-status.result
+      (cc) (cc)
       c.extract-status.ensures.host.told;
   failures = c.extract-status.ensures.host.failures;
 }
@@ -32,8 +33,10 @@ returns-in-Ok-clause-host g c =
     grind (arith, common_steps) in
     record {
       told = goes_reply _ _ (command_in c.args.words.now) (Err c.in-Err.field-0)
-          (record { text = c.as_str.result.now; status = ended.BadWords }) c.say-status-in-Ok.result (sym c.in-Err.ensures)
-          (λ x. ap (λ (t : List ℕ). record { text = t; status = ended.BadWords }) text) c.say-status-in-Ok.ensures.host.told;
+          (record { text = c.as_str.result.now; status = ended.BadWords }) c.say-status-in-Ok.result
+          (sym c.in-Err.ensures)
+          (λ x. ap (λ (t : List ℕ). record { text = t; status = ended.BadWords }) text)
+          c.say-status-in-Ok.ensures.host.told;
       failures = c.say-status-in-Ok.ensures.host.failures;
     }
 

@@ -2,7 +2,8 @@ use Rattle.std.proofs.Common.{◌+◌, ◌∙◌, ◌++◌, sym, ap}
 use Rattle.std.proofs.lemmas.Result.{err_from_is_err_and}
 use Rattle.host_model.proofs.FailureLemmas.{NeverFell-trans}
 use Rattle.gds_cli.specs.FaultText.{fault_line, fault_text}
-use Rattle.gds_cli.proofs.SayingLemmas.{on_break, texts_more, said_last, waits_more, waits_less, waits_front, waits_broken}
+use Rattle.gds_cli.proofs.SayingLemmas.{on_break, texts_more, said_last, waits_more, waits_less, waits_front}
+use Rattle.gds_cli.proofs.SayingLemmas.{waits_broken}
 use Rattle.gds_cli.proofs.FaultsDueLemmas.{rest_of, text_of}
 use Rattle.gds_cli.proofs.fault_list.say_faults.Goals as goal
 

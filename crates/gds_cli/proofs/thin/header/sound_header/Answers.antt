@@ -3,12 +3,14 @@ use Rattle.std.specs.Option.{ForSome}
 use Rattle.gds_header.specs.Kinds.{header_faults}
 use Rattle.gds_cli.specs.SoundHeader.{IsHeaderOf}
 use Rattle.gds_cli.proofs.HeaderReadingLemmas.{begins_told}
-use Rattle.gds_cli.proofs.SoundHeaderLemmas.{at_told, some_weaker, none_weaker, short_header}
+use Rattle.integ.proofs.MapLemmas.{some_at}
+use Rattle.m_key.proofs.ReadingLemmas.{none_weaker}
+use Rattle.gds_cli.proofs.SoundHeaderLemmas.{some_weaker, short_header}
 use Rattle.gds_cli.proofs.thin.header.sound_header.Goals as goal
 
 pub returns-then-length-clause-none : goal.returns-then-length-clause-none
 returns-then-length-clause-none g c x tells =
-    let is = at_told (g.H.Host.told c.args.host.now) _ x tells c.in_ok-length.ensures.length in
+    let is = some_at (g.H.Host.told c.args.host.now) _ x tells c.in_ok-length.ensures.length in
     short_header x.db (omega (arith, is, c.if-length.true))
 
 pub returns-clause-some : goal.returns-clause-some
@@ -22,7 +24,7 @@ returns-clause-some g c =
     (λ h. (d : List ℕ) → take 8192 d ≡ c.read.new.out → length d ≡ c.in_ok-length.length → IsHeaderOf h d)
     (λ h. ForSome (g.H.Host.told c.args.host.now) (λ x. IsHeaderOf h x.db))
     (λ h known x tells. let b =
-    at_told (g.H.Host.told c.args.host.now) _ x tells begun in known x.db b.front (sym b.count))
+    some_at (g.H.Host.told c.args.host.now) _ x tells begun in known x.db b.front (sym b.count))
     c.sound.ensures.some
 
 pub returns-clause-none : goal.returns-clause-none
@@ -36,5 +38,5 @@ returns-clause-none g c =
     ((d : List ℕ) → take 8192 d ≡ c.read.new.out → length d ≡ c.in_ok-length.length → header_faults d ≡ [] → ⊥)
     (ForSome (g.H.Host.told c.args.host.now) (λ x. header_faults x.db ≡ [] → ⊥))
     (λ known x tells. let b =
-    at_told (g.H.Host.told c.args.host.now) _ x tells begun in known x.db b.front (sym b.count))
+    some_at (g.H.Host.told c.args.host.now) _ x tells begun in known x.db b.front (sym b.count))
     c.sound.ensures.none

@@ -3,7 +3,8 @@ use Rattle.std.proofs.lemmas.List.{map-append}
 use Rattle.gds_block.specs.Record.{Record, records_of}
 use Rattle.gds_block.specs.View.{record_of}
 use Rattle.gds_cli.specs.Leaf.{valued, IsListed}
-use Rattle.gds_cli.proofs.LeafReadingLemmas.{SoFar, so_far_key, so_far_next, so_far_stops, so_far_all, bytes_of, bytes_more, within_used}
+use Rattle.gds_cli.proofs.LeafReadingLemmas.{SoFar, so_far_key, so_far_next, so_far_stops, so_far_all, bytes_of}
+use Rattle.gds_cli.proofs.LeafReadingLemmas.{bytes_more, within_used}
 use Rattle.gds_cli.proofs.thin.leaf.read_nodes.Goals as goal
 use Rattle.gds_cli.proofs.thin.leaf.read_nodes.Goals.{After-as_slice, then-end-used, else-end-used}
 

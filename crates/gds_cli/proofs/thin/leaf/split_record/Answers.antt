@@ -1,6 +1,5 @@
-use Rattle.std.proofs.Common.{◌∙◌, sym, ap, arith}
+use Rattle.std.proofs.Common.{◌∙◌, sym, arith}
 use Rattle.m_key.specs.Key.{key_bytes}
-use Rattle.m_key.specs.KeyEnd.{end_in}
 use Rattle.gds_block.specs.View.{record_of}
 use Rattle.gds_cli.proofs.LeafRecordLemmas.{not_endless, not_next, known, within_previous}
 use Rattle.gds_cli.proofs.thin.leaf.split_record.Goals as goal
@@ -15,18 +14,12 @@ returns-in_err-end-clause-none c =
     rw c.from_residual.ensures
     (λ n value p s.
     not_endless c.args.key_max c.args.previous.now (record_of c.args.view) n value p s
-    (c.in_err-end.ensures.value ∙ ap (λ z. end_in z c.args.view.body.now) c.ends_in_zero.ensures))
-
-pub returns-then-count-end-clause-none : goal.returns-then-count-end-clause-none
-returns-then-count-end-clause-none c n value p s =
-    let k = known c.args.key_max c.args.previous.now (record_of c.args.view) n value p s c.in_ok-end.end
-    (c.in_ok-end.ensures.value ∙ ap (λ z. end_in z c.args.view.body.now) c.ends_in_zero.ensures) in
-    absurd (omega (arith, s.within, k.long, c.if-count-end.true))
+    c.in_err-end.ensures.value)
 
 pub returns-then-is_next-clause-only : goal.returns-then-is_next-clause-only
 returns-then-is_next-clause-only c n value p s =
     let k = known c.args.key_max c.args.previous.now (record_of c.args.view) n value p s c.in_ok-end.end
-    (c.in_ok-end.ensures.value ∙ ap (λ z. end_in z c.args.view.body.now) c.ends_in_zero.ensures) in
+    c.in_ok-end.ensures.value in
     let key = c.join_key-key.ensures in
     let front = c.split_at.ensures.front in
     k.bytes ∙ (cc)
@@ -34,7 +27,7 @@ returns-then-is_next-clause-only c n value p s =
 pub returns-else-is_next-clause-none : goal.returns-else-is_next-clause-none
 returns-else-is_next-clause-none c n value p s =
     let k = known c.args.key_max c.args.previous.now (record_of c.args.view) n value p s c.in_ok-end.end
-    (c.in_ok-end.ensures.value ∙ ap (λ z. end_in z c.args.view.body.now) c.ends_in_zero.ensures) in
+    c.in_ok-end.ensures.value in
     let key = c.join_key-key.ensures in
     let front = c.split_at.ensures.front in
     not_next c.is_next.result c.args.view.count c.args.previous.now c.as_slice.result.now
