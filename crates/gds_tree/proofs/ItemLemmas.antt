@@ -108,7 +108,7 @@ each_moved h c d items role bounds l =
 -- ---- trees
 
 -- Where the first entry of an index block has a key, the bound below it is lower.
-abbrev LowBelow : Option (List ℕ) → List Item → Type 0
+abbrev pub LowBelow : Option (List ℕ) → List Item → Type 0
 LowBelow low [] = ⊤
 LowBelow low (e ∷ []) = ⊤
 LowBelow low (e ∷ f ∷ es) = IsAboveLow 1 low e.key
@@ -157,7 +157,7 @@ module _ (image : List ℕ) (i : IsImage image) where
         none = λ empty. absurd (high_not_none v.high e.key some (a.none (nil_parts xs ys empty).0).high);
       }
 
-  next_low : (e : Item) (es : List Item) → AreIndex e.key es → LowBelow (Some e.key) es
+  pub next_low : (e : Item) (es : List Item) → AreIndex e.key es → LowBelow (Some e.key) es
   next_low e [] h = tt
   next_low e (f ∷ []) h = tt
   next_low e (f ∷ g ∷ es) h = less_below e.key f.key h.0.above
@@ -188,7 +188,7 @@ module _ (image : List ℕ) (i : IsImage image) where
       (below_items v level (Some e.key) e.key (f ∷ es) p.second each index.2 lawful.1 (next_low e (f ∷ es) index.2)
       p.later))
 
-  first_low : (v : Visit) (level : ℕ) (es : List Item) → AreIndex [] es
+  pub first_low : (v : Visit) (level : ℕ) (es : List Item) → AreIndex [] es
       → AllByRecursion (IsLawfulEntry (fields_of image) v (suc level)) es → LowBelow v.low es
   first_low v level [] index lawful = tt
   first_low v level (e ∷ []) index lawful = tt
@@ -199,7 +199,7 @@ module _ (image : List ℕ) (i : IsImage image) where
       any_level None h = tt
       any_level (Some low) h = h
 
-  packable : (v : Visit) (level : ℕ) (es : List Item) → HasEntries image v level es → ArePackable level es
+  pub packable : (v : Visit) (level : ℕ) (es : List Item) → HasEntries image v level es → ArePackable level es
   packable v level es has = subst (λ n. ArePackable n es) has.level has.right.lawful.packable
 
   pub items_of_tree : (level : ℕ) → ItemsAt level

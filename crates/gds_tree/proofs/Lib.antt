@@ -18,3 +18,4 @@ pub mod PartLemmas
 pub mod KeptTreeLemmas
 pub mod WidenLemmas
 pub mod ItemLemmas
+pub mod ReplaceLemmas

@@ -1,0 +1,26 @@
+ghost use Rattle.std.specs.Prelude.{◌≡◌, ◌⊎◌, ◌<◌, ◌≤◌, ◌++◌, ◌∷◌, [], ℕ, suc, List, Option, Some};
+ghost use Rattle.gds_block.specs.Item.{Item};
+ghost use Rattle.gds_header.specs.Fields.{fields_of};
+ghost use Rattle.gds_law.specs.Visit.{Visit};
+ghost use Rattle.gds_pack.specs.Packed.{key_behind};
+ghost use Rattle.gds_sound.specs.Sound.{Tree, sound_tree};
+ghost use Rattle.m_key.specs.Key.{AtMost};
+ghost use Rattle.gds_tree.specs.Below.{low_behind, trees_below, HasEntries, index_tree};
+ghost use Rattle.gds_tree.specs.Keeps.{IsImage, KeepsSizes, KeepsBlocks};
+ghost use Rattle.gds_tree.specs.Around.{around};
+
+/// Where some entries of an index block are replaced by others, whose last key isn't above the last key of those that
+/// were taken, and what stands below the new ones is sound in the new image, which keeps what stands below the others,
+/// the tree is sound there: with what stands below those before, the new ones and those behind.
+pub fn replaced_entries()
+    ensures { (old new : List ℕ) (v : Visit) (level : ℕ) (a taken b put : List Item) (before middle behind : Tree)
+        → IsImage old → IsImage new → KeepsSizes old new → (fields_of old).total ≤ (fields_of new).total
+        → HasEntries old v (suc level) (a ++ taken ++ b)
+        → trees_below old v level v.low a ≡ Some before
+        → trees_below old v level (low_behind v.low (a ++ taken)) b ≡ Some behind
+        → KeepsBlocks old new before.blocks → KeepsBlocks old new behind.blocks
+        → HasEntries new v (suc level) (a ++ put ++ b)
+        → trees_below new v level (low_behind v.low a) put ≡ Some middle
+        → (put ≡ []) ⊎ AtMost (key_behind [] put) (key_behind [] taken)
+        → sound_tree new (suc level) v ≡ Some (index_tree v (around before middle behind)) }
+{}
