@@ -19,3 +19,4 @@ pub mod KeptTreeLemmas
 pub mod WidenLemmas
 pub mod ItemLemmas
 pub mod ReplaceLemmas
+pub mod AroundLemmas

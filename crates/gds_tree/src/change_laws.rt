@@ -1,13 +1,14 @@
-ghost use Rattle.std.specs.Prelude.{◌≡◌, ◌⊎◌, ◌<◌, ◌≤◌, ◌++◌, ◌∷◌, [], ℕ, suc, List, Option, Some};
+ghost use Rattle.std.specs.Prelude.{◌≡◌, ◌⊎◌, ◌<◌, ◌≤◌, ◌+◌, ◌++◌, ◌∷◌, [], ℕ, suc, List, Option, Some, length};
 ghost use Rattle.gds_block.specs.Item.{Item};
 ghost use Rattle.gds_header.specs.Fields.{fields_of};
 ghost use Rattle.gds_law.specs.Visit.{Visit};
+ghost use Rattle.gds_law.specs.Path.{Steps, visit_from};
 ghost use Rattle.gds_pack.specs.Packed.{key_behind};
 ghost use Rattle.gds_sound.specs.Sound.{Tree, sound_tree};
 ghost use Rattle.m_key.specs.Key.{AtMost};
 ghost use Rattle.gds_tree.specs.Below.{low_behind, trees_below, HasEntries, index_tree};
 ghost use Rattle.gds_tree.specs.Keeps.{IsImage, KeepsSizes, KeepsBlocks};
-ghost use Rattle.gds_tree.specs.Around.{around};
+ghost use Rattle.gds_tree.specs.Around.{around, IsAround};
 
 /// Where some entries of an index block are replaced by others, whose last key isn't above the last key of those that
 /// were taken, and what stands below the new ones is sound in the new image, which keeps what stands below the others,
@@ -23,4 +24,12 @@ pub fn replaced_entries()
         → trees_below new v level (low_behind v.low a) put ≡ Some middle
         → (put ≡ []) ⊎ AtMost (key_behind [] put) (key_behind [] taken)
         → sound_tree new (suc level) v ≡ Some (index_tree v (around before middle behind)) }
+{}
+
+/// Where a path leads from a visit to one further down in the same tree, the tree has there a tree of its own, with blocks
+/// and items before it and behind it, and another sound tree may stand in its place.
+pub fn tree_inside()
+    ensures { (image : List ℕ) (v w : Visit) (path : Steps) (level : ℕ) (t : Tree) → IsImage image
+        → v.block < (fields_of image).total → visit_from image v path ≡ Some w
+        → sound_tree image (length path + level) v ≡ Some t → IsAround image v path w level t }
 {}
