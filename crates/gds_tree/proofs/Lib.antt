@@ -20,3 +20,4 @@ pub mod WidenLemmas
 pub mod ItemLemmas
 pub mod ReplaceLemmas
 pub mod AroundLemmas
+pub mod RootLemmas

@@ -1,9 +1,11 @@
-ghost use Rattle.std.specs.Prelude.{◌≡◌, ◌⊎◌, ◌<◌, ◌≤◌, ◌+◌, ◌++◌, ◌∷◌, [], ℕ, suc, List, Option, Some, length};
+ghost use Rattle.std.specs.Prelude.{◌≡◌, ◌⊎◌, ◌<◌, ◌≤◌, ◌+◌, ◌++◌, ◌∷◌, [], ℕ, suc, List, Option, Some, length, drop};
 ghost use Rattle.gds_block.specs.Item.{Item};
-ghost use Rattle.gds_header.specs.Fields.{fields_of};
+ghost use Rattle.gds_block.specs.Fields.{u32_at};
+ghost use Rattle.gds_header.specs.Fields.{fields_of, block_of};
 ghost use Rattle.gds_law.specs.Visit.{Visit};
 ghost use Rattle.gds_law.specs.Path.{Steps, visit_from};
 ghost use Rattle.gds_pack.specs.Packed.{key_behind};
+ghost use Rattle.gds_pack.specs.Unpacked.{entries_of};
 ghost use Rattle.gds_sound.specs.Sound.{Tree, sound_tree};
 ghost use Rattle.m_key.specs.Key.{AtMost};
 ghost use Rattle.gds_tree.specs.Below.{low_behind, trees_below, HasEntries, index_tree};
@@ -32,4 +34,15 @@ pub fn tree_inside()
     ensures { (image : List ℕ) (v w : Visit) (path : Steps) (level : ℕ) (t : Tree) → IsImage image
         → v.block < (fields_of image).total → visit_from image v path ≡ Some w
         → sound_tree image (length path + level) v ≡ Some t → IsAround image v path w level t }
+{}
+
+/// Where a root above level 1 with the star alone takes the entries of its one child, the tree is sound in the new image,
+/// which keeps what stands below the child: one level lower, without the child's block and with the same items.
+pub fn collapsed_root()
+    ensures { (old new : List ℕ) (v : Visit) (level : ℕ) (e : Item) (es : List Item) (t : Tree)
+        → IsImage old → IsImage new → KeepsSizes old new → (fields_of old).total ≤ (fields_of new).total
+        → HasEntries old v (suc (suc level)) (e ∷ []) → sound_tree old (suc (suc level)) v ≡ Some t
+        → entries_of (block_of old (u32_at e.rest 0)) ≡ Some es → HasEntries new v (suc level) es
+        → KeepsBlocks old new (drop 2 t.blocks)
+        → sound_tree new (suc level) v ≡ Some (record { blocks = v.block ∷ drop 2 t.blocks; items = t.items }) }
 {}
