@@ -18,6 +18,8 @@ pub mod PartLemmas
 pub mod KeptTreeLemmas
 pub mod WidenLemmas
 pub mod ItemLemmas
+pub mod ListLemmas
+pub mod LawfulLemmas
 pub mod ReplaceLemmas
 pub mod AroundLemmas
 pub mod RootLemmas

@@ -9,7 +9,7 @@ use Rattle.gds_law.specs.Visit.{Visit}
 use Rattle.gds_pack.specs.Packable.{IsNext, AreIndex}
 use Rattle.gds_pack.specs.Unpacked.{entries_of}
 use Rattle.gds_sound.specs.Sound.{Tree, joined, sound_tree}
-use Rattle.gds_tree.specs.Below.{high_below, visit_below, both, trees_below, HasEntries, index_tree}
+use Rattle.gds_tree.specs.Below.{as_star, high_below, visit_below, both, trees_below, HasEntries, index_tree}
 use Rattle.gds_tree.specs.Keeps.{IsImage, KeepsSizes, KeepsBlocks}
 use Rattle.gds_tree.proofs.FineLemmas.{some_key}
 use Rattle.gds_tree.proofs.BelowLemmas.{AreBoth, both_parts, joined_none}
@@ -32,10 +32,6 @@ same_below image v w level low (e ∷ es) role high = λ i.
       low = low;
       high = high_below (high i) e.key;
     })) (same_below image v w level (Some e.key) es role high i)
-
--- an entry as the star of a block of its own, whose upper bound is its key
-abbrev pub as_star : Item → Item
-as_star e = record { key = []; rest = e.rest }
 
 high_key : (high : Option (List ℕ)) (key : List ℕ) → (key ≡ [] → ⊥) → high_below high key ≡ Some key
 high_key high [] some = absurd (some refl)
