@@ -26,7 +26,7 @@ use Rattle.gds_tree.proofs.ListLemmas.{index_first, IsFront, index_front, index_
 -- ---- one entry at another visit
 
 -- Its role, and where it has a key its bounds, decide.
-moved : (h : Header) (c d : Visit) (level : ℕ) (e : Item) → c.role ≡ d.role
+pub moved : (h : Header) (c d : Visit) (level : ℕ) (e : Item) → c.role ≡ d.role
     → ((e.key ≡ [] → ⊥) → IsLawfulKey h c level e.key → IsAboveLow level d.low e.key × IsBelowHigh d.high e.key)
     → IsLawfulEntry h c level e → IsLawfulEntry h d level e
 moved h c d level e role bounds l = record {
@@ -69,7 +69,7 @@ keyed : (k : List ℕ) (es : List Item) → Keys (Below k) es → KeyedAbove k e
 keyed k [] h = tt
 keyed k (e ∷ es) h = (λ some. h.0, keyed k es h.1)
 
-each : (h : Header) (v : Visit) (level : ℕ) (es : List Item) → IsLawful h v level es
+pub each : (h : Header) (v : Visit) (level : ℕ) (es : List Item) → IsLawful h v level es
     → AllByRecursion (IsLawfulEntry h v level) es
 each h v level es l = recursion_from_All (IsLawfulEntry h v level) es l.each
 

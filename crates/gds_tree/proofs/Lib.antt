@@ -20,6 +20,7 @@ pub mod WidenLemmas
 pub mod ItemLemmas
 pub mod ListLemmas
 pub mod LawfulLemmas
+pub mod JoinLemmas
 pub mod ReplaceLemmas
 pub mod AroundLemmas
 pub mod RootLemmas

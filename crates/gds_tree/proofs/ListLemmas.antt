@@ -16,7 +16,7 @@ Keys P es = AllByRecursion (λ (e : Item). P e.key) es
 
 -- ---- behind nothing
 
-nothing_less : (key : List ℕ) → IsKey key → cmp [] key ≡ Less
+pub nothing_less : (key : List ℕ) → IsKey key → cmp [] key ≡ Less
 nothing_less [] k = absurd (some_key [] k refl)
 nothing_less (b ∷ key) k = refl
 
@@ -62,7 +62,7 @@ index_front p (e ∷ g ∷ a) f b h =
     let r = index_front e.key (g ∷ a) f b h.2 in
     record { leaves = (h.0, r.leaves); fours = (h.1, r.fours); rest = r.rest }
 
-index_cons : (p : List ℕ) (e : Item) (es : List Item) → IsNext p e → length e.rest ≡ 4 → AreIndex e.key es
+pub index_cons : (p : List ℕ) (e : Item) (es : List Item) → IsNext p e → length e.rest ≡ 4 → AreIndex e.key es
     → AreIndex p (e ∷ es)
 index_cons p e [] n four h = absurd h
 index_cons p e (f ∷ es) n four h = (n, four, h)
