@@ -24,3 +24,4 @@ pub mod JoinLemmas
 pub mod ReplaceLemmas
 pub mod AroundLemmas
 pub mod RootLemmas
+pub mod RenumberLemmas

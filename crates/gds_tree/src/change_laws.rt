@@ -1,4 +1,4 @@
-ghost use Rattle.std.specs.Prelude.{◌≡◌, ◌⊎◌, ◌<◌, ◌≤◌, ◌+◌, ◌++◌, ◌∷◌, [], ℕ, suc, List, Option, Some, length, drop};
+ghost use Rattle.std.specs.Prelude.{◌≡◌, ◌⊎◌, ◌<◌, ◌≤◌, ◌+◌, ◌++◌, ◌∷◌, [], ℕ, suc, List, Option, Some, length, drop, All};
 ghost use Rattle.gds_block.specs.Item.{Item};
 ghost use Rattle.gds_block.specs.Fields.{u32_at};
 ghost use Rattle.gds_header.specs.Fields.{fields_of, block_of};
@@ -9,6 +9,8 @@ ghost use Rattle.gds_pack.specs.Unpacked.{entries_of};
 ghost use Rattle.gds_sound.specs.Sound.{Tree, sound_tree};
 ghost use Rattle.m_key.specs.Key.{AtMost};
 ghost use Rattle.gds_tree.specs.Below.{low_behind, trees_below, HasEntries, index_tree};
+ghost use Rattle.gds_tree.specs.Lawful.{IsTreeNumber};
+ghost use Rattle.gds_tree.specs.Renumber.{exchanged, renumbered_visit, renumbered_tree, IsRenumbered, KeepsNumbers};
 ghost use Rattle.gds_tree.specs.Keeps.{IsImage, KeepsSizes, KeepsBlocks};
 ghost use Rattle.gds_tree.specs.Around.{around, IsAround};
 
@@ -45,4 +47,15 @@ pub fn collapsed_root()
         → entries_of (block_of old (u32_at e.rest 0)) ≡ Some es → HasEntries new v (suc level) es
         → KeepsBlocks old new (drop 2 t.blocks)
         → sound_tree new (suc level) v ≡ Some (record { blocks = v.block ∷ drop 2 t.blocks; items = t.items }) }
+{}
+
+/// A sound tree whose blocks get other numbers, in the pointers to them too, is sound under these numbers.
+pub fn other_numbers()
+    ensures sound { (old new : List ℕ) (number : ℕ → ℕ) (v : Visit) (level : ℕ) (t : Tree) → IsImage old → IsImage new
+        → KeepsSizes old new → KeepsNumbers (fields_of old).total (fields_of new).total number
+        → IsTreeNumber (fields_of old).total v.block → sound_tree old level v ≡ Some t
+        → All (IsRenumbered old new number v.role) t.blocks
+        → sound_tree new level (renumbered_visit number v) ≡ Some (renumbered_tree number v.role t) }
+    ensures exchange { (total a b : ℕ) → IsTreeNumber total a → IsTreeNumber total b
+        → KeepsNumbers total total (exchanged a b) }
 {}
