@@ -33,7 +33,7 @@ pub record AreItems (h : Header) (v : Visit) (items : List Item) : Type 0 where
 abbrev Keys : (List ℕ → Type 0) → List Item → Type 0
 Keys P items = AllByRecursion (λ (e : Item). P e.key) items
 
-keys_lawful : (h : Header) (v : Visit) (previous : List ℕ) (items : List Item) → AreLeaves previous items
+pub keys_lawful : (h : Header) (v : Visit) (previous : List ℕ) (items : List Item) → AreLeaves previous items
     → AllByRecursion (IsLawfulEntry h v 0) items → Keys (IsLawfulKey h v 0) items
 keys_lawful h v previous [] leaves each = tt
 keys_lawful h v previous (e ∷ items) leaves each =
@@ -49,7 +49,7 @@ leaves_behind p k [] (y ∷ ys) low h g below above =
 leaves_behind p k (x ∷ xs) ys low h g below above =
     (h.0, leaves_behind x.key k xs ys below.0 h.1 g below.1 above)
 
-leaves_both : (k : List ℕ) (xs ys : List Item) → AreLeaves [] xs → AreLeaves [] ys
+pub leaves_both : (k : List ℕ) (xs ys : List Item) → AreLeaves [] xs → AreLeaves [] ys
     → Keys (λ key. Below key k) xs → Keys (AtMost k) ys → AreLeaves [] (xs ++ ys)
 leaves_both k [] ys h g below above = g
 leaves_both k (x ∷ xs) ys h g below above = (h.0, leaves_behind x.key k xs ys below.0 h.1 g below.1 above)
@@ -57,11 +57,11 @@ leaves_both k (x ∷ xs) ys h g below above = (h.0, leaves_behind x.key k xs ys 
 -- ---- bounds
 
 -- A key below one that is within the upper bound is so, and so is one from there on within the lower bound.
-below_key : (high : Option (List ℕ)) (k key : List ℕ) → IsBelowHigh high k → Below key k → IsBelowHigh high key
-below_key None k key h b = tt
-below_key (Some high) k key h b = below_most key k high b (most_from k high (inl (below_less k high h)))
+pub below_to_high : (high : Option (List ℕ)) (k key : List ℕ) → IsBelowHigh high k → Below key k → IsBelowHigh high key
+below_to_high None k key h b = tt
+below_to_high (Some high) k key h b = below_most key k high b (most_from k high (inl (below_less k high h)))
 
-above_key : (level : ℕ) (low : Option (List ℕ)) (k key : List ℕ) → IsAboveLow (suc level) low k → AtMost k key
+pub above_key : (level : ℕ) (low : Option (List ℕ)) (k key : List ℕ) → IsAboveLow (suc level) low k → AtMost k key
     → IsAboveLow 0 low key
 above_key level None k key h m = tt
 above_key level (Some low) k key h m = most_most low k key (most_from low k (inl (below_less low k h))) m
@@ -108,7 +108,7 @@ each_moved h c d items role bounds l =
 -- ---- trees
 
 -- Where the first entry of an index block has a key, the bound below it is lower.
-abbrev LowBelow : Option (List ℕ) → List Item → Type 0
+abbrev pub LowBelow : Option (List ℕ) → List Item → Type 0
 LowBelow low [] = ⊤
 LowBelow low (e ∷ []) = ⊤
 LowBelow low (e ∷ f ∷ es) = IsAboveLow 1 low e.key
@@ -151,13 +151,13 @@ module _ (image : List ℕ) (i : IsImage image) where
         leaves = leaves_both e.key xs ys a.leaves b.leaves first second;
         each = all_both (IsLawfulEntry h (from_low v low) 0) xs ys
             (each_moved h c (from_low v low) xs refl
-            (λ key k. (k.above, below_key v.high e.key key below (below_some v.high e.key key some k.below))) a.each)
+            (λ key k. (k.above, below_to_high v.high e.key key below (below_some v.high e.key key some k.below))) a.each)
             (each_moved h d (from_low v low) ys refl (λ key k. (above_key 0 low e.key key above k.above, k.below))
             b.each);
         none = λ empty. absurd (high_not_none v.high e.key some (a.none (nil_parts xs ys empty).0).high);
       }
 
-  next_low : (e : Item) (es : List Item) → AreIndex e.key es → LowBelow (Some e.key) es
+  pub next_low : (e : Item) (es : List Item) → AreIndex e.key es → LowBelow (Some e.key) es
   next_low e [] h = tt
   next_low e (f ∷ []) h = tt
   next_low e (f ∷ g ∷ es) h = less_below e.key f.key h.0.above
@@ -188,7 +188,7 @@ module _ (image : List ℕ) (i : IsImage image) where
       (below_items v level (Some e.key) e.key (f ∷ es) p.second each index.2 lawful.1 (next_low e (f ∷ es) index.2)
       p.later))
 
-  first_low : (v : Visit) (level : ℕ) (es : List Item) → AreIndex [] es
+  pub first_low : (v : Visit) (level : ℕ) (es : List Item) → AreIndex [] es
       → AllByRecursion (IsLawfulEntry (fields_of image) v (suc level)) es → LowBelow v.low es
   first_low v level [] index lawful = tt
   first_low v level (e ∷ []) index lawful = tt
@@ -199,7 +199,7 @@ module _ (image : List ℕ) (i : IsImage image) where
       any_level None h = tt
       any_level (Some low) h = h
 
-  packable : (v : Visit) (level : ℕ) (es : List Item) → HasEntries image v level es → ArePackable level es
+  pub packable : (v : Visit) (level : ℕ) (es : List Item) → HasEntries image v level es → ArePackable level es
   packable v level es has = subst (λ n. ArePackable n es) has.level has.right.lawful.packable
 
   pub items_of_tree : (level : ℕ) → ItemsAt level

@@ -35,7 +35,7 @@ rest_kept h g (global name) (suc level) rest same l r =
     record { size = l.size; leads = record { positive = l.leads.positive; within = r; no_map = l.leads.no_map } }
 
 -- the limits of keys and values are the same
-record SameLimits (h g : Header) : Type 0 where
+pub record SameLimits (h g : Header) : Type 0 where
   block_size : g.block_size ≡ h.block_size
   key_max : g.key_max ≡ h.key_max
   value_max : g.value_max ≡ h.value_max
@@ -117,7 +117,7 @@ leaf_reach total directory es h = h
 leaf_reach total (global name) [] h = tt
 leaf_reach total (global name) (e ∷ es) h = (tt, leaf_reach total (global name) es tt)
 
-index_reach : (total : ℕ) (role : TreeRole) (level : ℕ) (es : List Item)
+pub index_reach : (total : ℕ) (role : TreeRole) (level : ℕ) (es : List Item)
     → AllByRecursion (λ (e : Item). u32_at e.rest 0 < total) es → Reach total role (suc level) es
 index_reach total directory level es h = h
 index_reach total (global name) level es h = h
@@ -130,7 +130,7 @@ pointers h v (global name) level rest l = l
 -- ---- trees
 
 module _ (old new : List ℕ) (a : IsImage old) (b : IsImage new) (sizes : KeepsSizes old new) where
-  same_limits : SameLimits (fields_of old) (fields_of new)
+  pub same_limits : SameLimits (fields_of old) (fields_of new)
   same_limits = record {
     block_size = sizes.block_size;
     key_max = sizes.key_max;
@@ -138,7 +138,7 @@ module _ (old new : List ℕ) (a : IsImage old) (b : IsImage new) (sizes : Keeps
     tn = sizes.tn;
   }
 
-  entries_kept : (v : Visit) (level : ℕ) (es : List Item) → HasEntries old v level es
+  pub entries_kept : (v : Visit) (level : ℕ) (es : List Item) → HasEntries old v level es
       → v.block < (fields_of new).total → block_of new v.block ≡ block_of old v.block
       → Reach (fields_of new).total v.role level es → HasEntries new v level es
   entries_kept v level es has low same reach = record {
@@ -150,16 +150,16 @@ module _ (old new : List ℕ) (a : IsImage old) (b : IsImage new) (sizes : Keeps
   }
 
   -- what is to be shown of the trees of a level
-  abbrev StaysAt : ℕ → Type 0
+  abbrev pub StaysAt : ℕ → Type 0
   StaysAt level = (c : Visit) (t : Tree) → c.block < (fields_of old).total → sound_tree old level c ≡ Some t
       → Low (fields_of new).total t.blocks → Roots (fields_of new).total c.role t.items → Kept old new t.blocks
       → sound_tree new level c ≡ Some t
 
-  record BelowKept (v : Visit) (level : ℕ) (low : Option (List ℕ)) (es : List Item) (t : Tree) : Type 0 where
-    trees : trees_below new v level low es ≡ Some t
-    reach : AllByRecursion (λ (e : Item). u32_at e.rest 0 < (fields_of new).total) es
+  pub record BelowKept (v : Visit) (level : ℕ) (low : Option (List ℕ)) (es : List Item) (t : Tree) : Type 0 where
+    pub trees : trees_below new v level low es ≡ Some t
+    pub reach : AllByRecursion (λ (e : Item). u32_at e.rest 0 < (fields_of new).total) es
 
-  below_kept : (v : Visit) (level : ℕ) (low : Option (List ℕ)) (es : List Item) (t : Tree) → StaysAt level
+  pub below_kept : (v : Visit) (level : ℕ) (low : Option (List ℕ)) (es : List Item) (t : Tree) → StaysAt level
       → AllByRecursion (IsLawfulEntry (fields_of old) v (suc level)) es → trees_below old v level low es ≡ Some t
       → Low (fields_of new).total t.blocks → Roots (fields_of new).total v.role t.items → Kept old new t.blocks
       → BelowKept v level low es t

@@ -15,10 +15,10 @@ use Rattle.gds_tree.proofs.PartLemmas.{low_blocks, rooted}
 
 -- ---- where the total is no smaller
 
-low_more : (n m : ℕ) (blocks : List ℕ) → n ≤ m → Low n blocks → Low m blocks
+pub low_more : (n m : ℕ) (blocks : List ℕ) → n ≤ m → Low n blocks → Low m blocks
 low_more n m blocks h l = all_weaker (λ k. k < n) (λ k. k < m) blocks (λ k low. omega arith) l
 
-roots_more : (n m : ℕ) (role : TreeRole) (items : List Item) → n ≤ m → Roots n role items → Roots m role items
+pub roots_more : (n m : ℕ) (role : TreeRole) (items : List Item) → n ≤ m → Roots n role items → Roots m role items
 roots_more n m directory items h l =
     all_weaker (λ (e : Item). u32_at e.rest 0 < n) (λ (e : Item). u32_at e.rest 0 < m) items (λ e low. omega arith) l
 roots_more n m (global name) items h l = tt

@@ -18,3 +18,10 @@ pub mod PartLemmas
 pub mod KeptTreeLemmas
 pub mod WidenLemmas
 pub mod ItemLemmas
+pub mod ListLemmas
+pub mod LawfulLemmas
+pub mod JoinLemmas
+pub mod ReplaceLemmas
+pub mod AroundLemmas
+pub mod RootLemmas
+pub mod RenumberLemmas

@@ -33,7 +33,7 @@ module _ (image : List ℕ) (i : IsImage image) where
   NumberedAt level = (v : Visit) (t : Tree) → IsTreeNumber (fields_of image).total v.block
       → sound_tree image level v ≡ Some t → Numbered t.blocks
 
-  below_numbered : (v : Visit) (level : ℕ) (low : Option (List ℕ)) (es : List Item) (t : Tree) → NumberedAt level
+  pub below_numbered : (v : Visit) (level : ℕ) (low : Option (List ℕ)) (es : List Item) (t : Tree) → NumberedAt level
       → AllByRecursion (IsLawfulEntry (fields_of image) v (suc level)) es → trees_below image v level low es ≡ Some t
       → Numbered t.blocks
   below_numbered v level low [] t each lawful h =
@@ -94,7 +94,7 @@ module _ (image : List ℕ) (i : IsImage image) where
       let pointer = subst (λ role. IsLawfulRest (fields_of image) role 0 f.rest) e lawful.0.rest in
       (pointer.leads.within, leaf_rooted v directory es e lawful.1)
 
-  below_rooted : (v : Visit) (level : ℕ) (low : Option (List ℕ)) (es : List Item) (t : Tree) → RootedAt level
+  pub below_rooted : (v : Visit) (level : ℕ) (low : Option (List ℕ)) (es : List Item) (t : Tree) → RootedAt level
       → AllByRecursion (IsLawfulEntry (fields_of image) v (suc level)) es → trees_below image v level low es ≡ Some t
       → Roots (fields_of image).total v.role t.items
   below_rooted v level low [] t each lawful h =

@@ -14,6 +14,20 @@ abbrev pub high_below : Option (List ℕ) → List ℕ → Option (List ℕ)
 high_below high [] = high
 high_below high (b ∷ bytes) = Some (b ∷ bytes)
 
+-- the visit with a key as its upper bound, and as its lower one
+abbrev pub below_key : Visit → List ℕ → Visit
+below_key v key = record { block = v.block; role = v.role; level = v.level; low = v.low; high = Some key }
+
+abbrev pub from_key : Visit → List ℕ → Visit
+from_key v key = record { block = v.block; role = v.role; level = v.level; low = Some key; high = v.high }
+
+-- an entry without its key, as the star of a block whose upper bound the key is, and with another key
+abbrev pub as_star : Item → Item
+as_star e = record { key = []; rest = e.rest }
+
+abbrev pub with_key : List ℕ → Item → Item
+with_key key e = record { key = key; rest = e.rest }
+
 -- where an entry of an index block leads, whose children have this level, and below which the keys have this lower bound
 abbrev pub visit_below : Visit → ℕ → Option (List ℕ) → Item → Visit
 visit_below v level low e = record {

@@ -3,3 +3,4 @@ pub mod RightBlock
 pub mod Below
 pub mod Keeps
 pub mod Around
+pub mod Renumber
