@@ -25,7 +25,7 @@ count_in : (n : ℕ) (xs ys : List Tree)
 count_in n xs ys =
     ap (count n) (flat_map_append (λ (tree : Tree). tree.blocks) xs ys) ∙ count_append n (blocks_in xs) (blocks_in ys)
 
-trees_split : (image : List ℕ) (xs ys : List Item) (ts us : List Tree) → length xs ≡ length ts
+pub trees_split : (image : List ℕ) (xs ys : List Item) (ts us : List Tree) → length xs ≡ length ts
     → AreTrees image (xs ++ ys) (ts ++ us) → AreTrees image xs ts × AreTrees image ys us
 trees_split image [] ys [] us e h = (tt, h)
 trees_split image [] ys (t ∷ ts) us e h = absurd (omega arith)

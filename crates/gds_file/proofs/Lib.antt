@@ -7,3 +7,5 @@ pub mod ReshapeLemmas
 pub mod ExchangeLemmas
 pub mod FileLemmas
 pub mod StampLemmas
+pub mod ChangeLemmas
+pub mod KillLemmas

@@ -1,6 +1,5 @@
 -- A SET and a KILL, said of the items of a file's globals.
 use Rattle.std.specs.Prelude.{◌≡◌, ℕ, ◌<◌, List, [], ◌∷◌, ◌++◌, length, All}
-use Rattle.m_key.specs.Node.{Node}
 use Rattle.m_key.specs.Globals.{Globals, Place, set_value, kill, after}
 use Rattle.m_key.specs.KeyParts.{name_part}
 use Rattle.gds_block.specs.Item.{Item}
@@ -21,7 +20,7 @@ SetItemIsSet =
 abbrev pub ItemsOutsideAreKill : Type 0
 ItemsOutsideAreKill =
     (old new : List ℕ) (directory directory' : Tree) (globals globals' : List Tree) (m : Globals) (p : Place)
-    → IsSound old directory globals → StandsFor old m → IsSound new directory' globals' → All (λ b. b < 256) old
+    → IsSound old directory globals → StandsFor old m → IsSound new directory' globals'
     → items_in globals' ≡ items_outside p.node (items_in globals)
     → StandsFor new (after m (kill p))
 
@@ -41,18 +40,18 @@ SetInNewTree =
 abbrev pub KillInOneTree : Type 0
 KillInOneTree =
     (image : List ℕ) (directory old new : Tree) (left right : List Tree) (front back : List Item) (entry : Item)
-    (node : Node)
+    (p : Place)
     → IsSound image directory (left ++ old ∷ right) → All (λ b. b < 256) image
-    → directory.items ≡ front ++ entry ∷ back → length front ≡ length left → name_part entry.key ≡ node.name
-    → new.items ≡ items_outside node old.items
-    → items_in (left ++ new ∷ right) ≡ items_outside node (items_in (left ++ old ∷ right))
+    → directory.items ≡ front ++ entry ∷ back → length front ≡ length left → name_part entry.key ≡ p.node.name
+    → new.items ≡ items_outside p.node old.items
+    → items_in (left ++ new ∷ right) ≡ items_outside p.node (items_in (left ++ old ∷ right))
 
 -- Where it takes all of them, the tree goes.
 abbrev pub KillOfOneTree : Type 0
 KillOfOneTree =
     (image : List ℕ) (directory tree : Tree) (left right : List Tree) (front back : List Item) (entry : Item)
-    (node : Node)
+    (p : Place)
     → IsSound image directory (left ++ tree ∷ right) → All (λ b. b < 256) image
-    → directory.items ≡ front ++ entry ∷ back → length front ≡ length left → name_part entry.key ≡ node.name
-    → items_outside node tree.items ≡ []
-    → items_in (left ++ right) ≡ items_outside node (items_in (left ++ tree ∷ right))
+    → directory.items ≡ front ++ entry ∷ back → length front ≡ length left → name_part entry.key ≡ p.node.name
+    → items_outside p.node tree.items ≡ []
+    → items_in (left ++ right) ≡ items_outside p.node (items_in (left ++ tree ∷ right))

@@ -1,3 +1,5 @@
+ghost use Rattle.gds_file.specs.ChangeLaws.{ItemsOutsideAreKill, KillInOneTree, KillOfOneTree, SetInNewTree};
+ghost use Rattle.gds_file.specs.ChangeLaws.{SetInOneTree, SetItemIsSet};
 ghost use Rattle.gds_file.specs.FileLaws.{DirectoryChanges, EntryComes, EntryGoes, GlobalChanges, NoTreeChanges};
 ghost use Rattle.gds_file.specs.FileLaws.{StampKeepsTrees};
 ghost use Rattle.gds_file.specs.MapLaws.{MapsAreRightInTwoParts};
@@ -37,4 +39,20 @@ pub fn file_stays_sound()
 /// Where a commit gives changed blocks the header's transaction number and adds 1 to the header's, all trees stay.
 pub fn stamp_keeps_trees()
     ensures { StampKeepsTrees }
+{}
+
+/// Where the items of a file's globals change by one item that is set, the file stands for the map after a SET. It does
+/// not matter of which tree it is an item.
+pub fn set_item()
+    ensures map { SetItemIsSet }
+    ensures in_one_tree { SetInOneTree }
+    ensures in_new_tree { SetInNewTree }
+{}
+
+/// Where the items of a node and of its descendants go, the file stands for the map after a KILL. They are all in
+/// the tree of the node's global.
+pub fn kill_items()
+    ensures map { ItemsOutsideAreKill }
+    ensures in_one_tree { KillInOneTree }
+    ensures of_one_tree { KillOfOneTree }
 {}

@@ -58,7 +58,7 @@ KeysAreNodes = (key : List ℕ) → key_len key ≡ Some (length key) → AreByt
 abbrev behind : Node → List ℕ
 behind n = flat_map ended n.subscripts ++ 0 ∷ []
 
-key_name : (n : Node) → IsNode n → name_part (key_bytes n) ≡ n.name
+pub key_name : (n : Node) → IsNode n → name_part (key_bytes n) ≡ n.name
 key_name n r = ap name_part (keys.key-is n) ∙ name_part-ended n.name (behind n) (keys.NoZero-name numbers n r)
 
 keys_cmp : (a b : Node) → IsNode a → IsNode b
@@ -104,7 +104,7 @@ length_drop_one : {A : Type 0} (xs : List A) → length (drop 1 xs) ≡ length x
 length_drop_one [] = refl
 length_drop_one (x ∷ xs) = omega arith
 
-no_subscripts : (n : Node) → length (subscript_parts (key_bytes n)) ≡ 0 → n.subscripts ≡ []
+pub no_subscripts : (n : Node) → length (subscript_parts (key_bytes n)) ≡ 0 → n.subscripts ≡ []
 no_subscripts n h = by n.subscripts refl
   where
     by : (ss : List NodeSubscript) → n.subscripts ≡ ss → n.subscripts ≡ []
@@ -157,10 +157,10 @@ names_across x y e d px py pe pd sx sy ne nd h =
 
 -- ---- the items of the globals rise
 
-own_name : (name key : List ℕ) → is_other_global (global name) (name_part key) ≡ false → name_part key ≡ name
+pub own_name : (name key : List ℕ) → is_other_global (global name) (name_part key) ≡ false → name_part key ≡ name
 own_name name key h = sym ((bytes_eq-Decides name (name_part key)).0 (not-false _ h))
 
-no_parts : (key : List ℕ) → IsRightKey directory key → length (subscript_parts key) ≡ 0
+pub no_parts : (key : List ℕ) → IsRightKey directory key → length (subscript_parts key) ≡ 0
 no_parts key r = by (nat_lt 0 (length (subscript_parts key))) refl
   where
     plain : (nat_lt 0 (length (subscript_parts key))) ≡ false
