@@ -1,0 +1,6 @@
+pub mod State
+pub mod Held
+pub mod Durable
+pub mod Plan
+pub mod Reading
+pub mod Ending

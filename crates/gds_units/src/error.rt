@@ -1,0 +1,63 @@
+ghost use Rattle.std.specs.Prelude.{◌≡◌};
+ghost use Rattle.gds_units.specs.declared.error.UnitError.TheVariants.{WriteFault};
+
+use host_model::HostFailed;
+use thiserror::Error;
+
+/// Why a call on the units of a database failed.
+#[derive(Clone, Copy, Debug, PartialEq, Eq, Error)]
+pub enum UnitError {
+    /// Memory ran out.
+    #[error("memory ran out")]
+    Memory,
+    /// A file could not be read.
+    #[error("a file could not be read")]
+    ReadFault,
+    /// A file could not be written. No call writes from then on: the files want to be opened again.
+    #[error("a file could not be written")]
+    WriteFault,
+    /// An earlier call could not write, so nothing is written any more.
+    #[error("an earlier call could not write")]
+    Stopped,
+    /// A file that was to be made is there.
+    #[error("a file is there already")]
+    NotEmpty,
+    /// A field of the file of images isn't whole in the file or breaks its rule.
+    #[error("the file of images is damaged at {at}")]
+    BadImages {
+        /// Where the field begins.
+        at: u64,
+    },
+    /// The header of the recovered database can't be read.
+    #[error("the database has {faults} faults")]
+    Unsound {
+        /// How many faults it has, which is the one that ends the reading.
+        faults: u64,
+    },
+    /// A file changed while it was open.
+    #[error("unit {unit} has changed")]
+    Changed {
+        /// The unit that changed: 0 is the header, and n + 1 is block n.
+        unit: u32,
+    },
+}
+
+impl From<HostFailed> for UnitError {
+    ghost from_gives = { λ _ error. error ≡ WriteFault };
+
+    /// A call that writes or syncs failed.
+    fn from(_: HostFailed) -> UnitError {
+        UnitError::WriteFault
+    }
+}
+
+/// Something could not be said, or only in part.
+#[derive(Clone, Copy, Debug, PartialEq, Eq, Error)]
+#[error("the output failed")]
+pub struct SayFailed;
+
+impl From<HostFailed> for SayFailed {
+    fn from(_: HostFailed) -> SayFailed {
+        SayFailed
+    }
+}
