@@ -3,8 +3,8 @@ ghost use Rattle.std.specs.Prelude.{◌≡◌, ◌<◌, length, replicate, IfOk}
 use std::alloc::{AllocError, Global};
 use std::marker::Model;
 
-/// How many zeros are written by one call at most.
-const ZEROS: usize = 65_536;
+/// How many zeros are written by one call at most, and how many bytes of a unit are read: no block is longer.
+const ROOM: usize = 65_536;
 
 /// Zeros for the blocks by which a file grows.
 #[derive(Debug, Drop)]
@@ -26,7 +26,7 @@ impl Model for Zeros {
 impl Zeros {
     /// Takes the memory.
     pub(crate) fn new(alloc: Global) -> Result<Zeros, AllocError> {
-        Zeros::with_len(alloc, ZEROS)
+        Zeros::with_len(alloc, ROOM)
     }
 
     fn with_len(alloc: Global, len: usize) -> Result<Zeros, AllocError>
@@ -43,5 +43,36 @@ impl Zeros {
         ensures zeros { result.now ≡ replicate (length result.now) 0 }
     {
         &self.bytes
+    }
+}
+
+/// Room for the old bytes of a unit.
+#[derive(Debug, Drop)]
+pub(crate) struct Scratch {
+    bytes: Vec<u8>,
+}
+
+impl Model for Scratch {
+    ghost use Rattle.std.specs.Prelude.{ℕ, ◌≤◌, length};
+
+    ghost Value = { ℕ };
+
+    ghost view = { λ scratch. length scratch.bytes.items };
+
+    ghost invariant = { λ scratch. 65536 ≤ length scratch.bytes.items };
+}
+
+impl Scratch {
+    /// Takes the memory.
+    pub(crate) fn new(alloc: Global) -> Result<Scratch, AllocError> {
+        Scratch::with_len(alloc, ROOM)
+    }
+
+    fn with_len(alloc: Global, len: usize) -> Result<Scratch, AllocError>
+        requires { 65536 ≤ len }
+    {
+        Ok(Scratch {
+            bytes: vec![in alloc; 0; len]?,
+        })
     }
 }

@@ -1,7 +1,7 @@
 ghost use Rattle.std.specs.Prelude.{◌≡◌};
 ghost use Rattle.gds_units.specs.declared.error.UnitError.TheVariants.{WriteFault};
 
-use host_model::HostFailed;
+use host_model::{Host, HostFailed};
 use thiserror::Error;
 
 /// Why a call on the units of a database failed.
@@ -60,4 +60,13 @@ impl From<HostFailed> for SayFailed {
     fn from(_: HostFailed) -> SayFailed {
         SayFailed
     }
+}
+
+/// A host that is handed back, since a database could not be opened or made on it.
+#[derive(Drop)]
+pub struct Returned<H: Host> {
+    /// The host as the call left it.
+    pub host: H,
+    /// Why the call failed.
+    pub error: UnitError,
 }

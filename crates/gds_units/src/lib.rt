@@ -10,6 +10,6 @@ mod error;
 mod plan;
 mod units;
 
-pub use error::{SayFailed, UnitError};
+pub use error::{Returned, SayFailed, UnitError};
 pub use plan::Plan;
 pub use units::Units;

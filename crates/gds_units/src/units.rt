@@ -10,7 +10,7 @@ ghost use Rattle.gds_images.specs.Outcome.{IsWhole};
 ghost use Rattle.gds_units.specs.Held.{IsRecoverable};
 ghost use Rattle.gds_units.specs.State.{image_of};
 
-use crate::buffer::Zeros;
+use crate::buffer::{Scratch, Zeros};
 use gds_epoch::Waiting;
 use gds_header::Header;
 use gds_images::Group;
@@ -36,6 +36,7 @@ pub struct Units<H: Host> {
     extent: u64,
     is_stopped: bool,
     zeros: Zeros,
+    scratch: Scratch,
 }
 
 impl<H: Host> Model for Units<H> {

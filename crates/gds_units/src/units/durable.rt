@@ -42,7 +42,7 @@ impl<H: Host> Units<H> {
         match write_epoch(&mut self.host, &mut self.before, &self.waiting, block_size, self.epoch_length) {
             Ok(()) => {
                 self.waiting.clear();
-                // self.before.clear();
+                self.before.clear();
                 self.epoch_length = self.header.file_length();
                 Ok(())
             }
@@ -110,6 +110,7 @@ impl<H: Host> Units<H> {
                 Ok(())
             }
             Err(_) => {
+                self.extent = from;
                 self.is_stopped = true;
                 Err(UnitError::WriteFault)
             }
@@ -134,12 +135,9 @@ impl<H: Host> Units<H> {
         if self.is_stopped {
             return Err(UnitError::Stopped);
         }
-        let length = self.header.file_length();
-        match shorten_file(&mut self.host, length) {
-            Ok(()) => {
-                self.extent = length;
-                Ok(())
-            }
+        self.extent = self.header.file_length();
+        match shorten_file(&mut self.host, self.extent) {
+            Ok(()) => Ok(()),
             Err(_) => {
                 self.is_stopped = true;
                 Err(UnitError::WriteFault)
