@@ -1,0 +1,3 @@
+mod PatchedLemmas
+mod HeldLemmas
+mod DurableLemmas

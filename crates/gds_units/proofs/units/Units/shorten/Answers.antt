@@ -1,35 +1,29 @@
-use Rattle.std.proofs.Common.{rules, ◌≡◌, ◌*◌, ◌+◌, ◌-◌, ◌<◌, ◌≤◌, false, None, length, replicate, take, OnErr, OnOk, ℕ, ◌/◌, ◌%◌, Bool, true, nat_eq, nat_lt, List, [], ◌∷◌, ◌++◌, slice_index_or, slice_set, bit_and, bit_or, Fits, w8, w32, w64, Bor, MutBor}
-use Rattle.std.specs.Option.{ForSome}
-use Rattle.host_model.specs.Disk.{written}
-use Rattle.host_model.specs.Failures.{NeverFell, Rose}
-use Rattle.host_model.specs.Files.{Says}
-use Rattle.host_model.specs.Told.{TellsOn}
-use Rattle.gds_header.specs.Fields.{file_length_of, place_of}
-use Rattle.gds_units.specs.Durable.{IsStored, Keeps, KeepsOrStores, KeepsSaying, KeptAllOrStored}
-use Rattle.gds_units.specs.Ending.{EndsWriting}
-use Rattle.gds_units.specs.State.{WhereTold, image_of}
+use Rattle.std.proofs.Common.{◌≡◌, ◌∙◌, ◌≤◌, List, sym, ap, refl, subst, arith}
+use Rattle.gds_units.specs.Durable.{Keeps}
+use Rattle.gds_units.specs.State.{UnitsState, WhereTold, image_of}
+use Rattle.gds_units.proofs.DurableLemmas.{keeps_none}
+use Rattle.gds_units.proofs.HeldLemmas.{after_front, front_image, front_reach, keeps_front, none_waits}
+use Rattle.gds_units.proofs.units.Units.shorten.Given.{Over}
 use Rattle.gds_units.proofs.units.Units.shorten.Goals as goal
 
--- src/units/durable.rt:135:13
 pub returns-then-self-clause-any_moment : goal.returns-then-self-clause-any_moment
-returns-then-self-clause-any_moment g c = ?
+returns-then-self-clause-any_moment g c =
+    let h = g.H.Host in
+    subst (λ (s : UnitsState g.row.H.Denot). WhereTold h.told s
+    (λ x image. Keeps h.moment h.left_since s.host s.host)) c.self.view_is
+    (λ x tells image is. keeps_none h.moment h.left_since c.self.inside.host (c.self.invariant.found x tells))
 
--- src/units/durable.rt:141:17
 pub invariant_of-self : goal.invariant_of-self
 invariant_of-self g c = ?
 
--- src/units/durable.rt:145:17
 pub invariant_of-self-in-Err : goal.invariant_of-self-in-Err
 invariant_of-self-in-Err g c = ?
 
--- src/units/durable.rt:120:5
 pub returns-in-Ok-clause-any_moment : goal.returns-in-Ok-clause-any_moment
 returns-in-Ok-clause-any_moment g c = ?
 
--- src/units/durable.rt:120:5
 pub returns-in-Err-clause-image : goal.returns-in-Err-clause-image
 returns-in-Err-clause-image g c = ?
 
--- src/units/durable.rt:120:5
 pub returns-in-Err-clause-any_moment : goal.returns-in-Err-clause-any_moment
 returns-in-Err-clause-any_moment g c = ?
