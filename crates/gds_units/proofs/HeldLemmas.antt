@@ -1,7 +1,6 @@
 -- What is known of units after a call on their host.
 use Rattle.std.proofs.Common.{◌≡◌, ◌⊎◌, ℕ, ◌+◌, ◌^◌, ◌<◌, ◌≤◌, Bool, true, false, List, [], length, take, Option, None, Some}
-use Rattle.std.proofs.Common.{refl, sym, ap, subst, ◌∙◌, arith, length-take, inl, inr, true≢false, ◌==◌, ◌∷◌}
-use Rattle.std.proofs.lemmas.Bool.{eqb-true}
+use Rattle.std.proofs.Common.{refl, sym, ap, subst, ◌∙◌, arith, length-take, inl, inr, true≢false, ◌∷◌}
 use Rattle.std.specs.Option.{ForSome}
 use Rattle.std.specs.Prelude.{All, option_map}
 use Rattle.std.proofs.lemmas.List.{take-take}
@@ -62,9 +61,15 @@ module _ (h : Header) (units : List WaitingUnit) (n : ℕ) (is_n : n ≡ file_le
       → database_of (patched h.block_size units d.db) ≡ database_of (patched h.block_size units c.db)
   same_image extent held = (database_kept held.fields).1
 
-pub none_waits : (units : List WaitingUnit) → (length units == 0) ≡ true → units ≡ []
+-- Where their count is 0, no unit waits.
+pub none_waits : (units : List WaitingUnit) → length units ≡ 0 → units ≡ []
 none_waits [] is = refl
-none_waits (x ∷ units) is = absurd (omega (arith, eqb-true (length (x ∷ units)) 0 is))
+none_waits (x ∷ units) is = absurd (omega (arith, is))
+
+pub idle_within : (h : Header) (epoch extent : ℕ) (images : List Image) (units : List WaitingUnit)
+    → AreInPlace h epoch extent images units → length units ≡ 0 → (n : ℕ) → n ≡ file_length_of h → epoch ≤ n
+idle_within h epoch extent images units places none n is_n =
+    omega (arith, places.none (none_waits units none), is_n)
 
 -- one of two databases is found
 either_found : (a b : List ℕ) (c x : Contents) → Finds a c x ⊎ Finds b c x → IsRecoverable x

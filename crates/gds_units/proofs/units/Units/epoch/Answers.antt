@@ -1,5 +1,5 @@
-use Rattle.std.proofs.Common.{◌≡◌, ◌∙◌, length, List, sym, ap, refl, subst, eqb}
-use Rattle.gds_header.specs.Fields.{file_length_of}
+use Rattle.std.proofs.Common.{◌≡◌, ◌∙◌, length, sym, subst}
+use Rattle.std.proofs.lemmas.Bool.{eqb-true}
 use Rattle.gds_units.specs.Durable.{IsStored, KeepsOrStores}
 use Rattle.gds_units.specs.State.{UnitsState, WhereTold}
 use Rattle.gds_units.proofs.DurableLemmas.{keeps_none, keeps_or}
@@ -21,7 +21,7 @@ returns-then-is_empty-clause-stored g c =
     subst (λ (s : UnitsState g.row.H.Denot). WhereTold h.told s
     (λ c image. IsStored h.moment h.left_since image c.said s.host)) c.self.view_is
     (stored_idle u.host u.header u.waiting.units u.before u.epoch_length u.extent u.is_stopped c.self.invariant
-    c.if-self.false (none_waits u.waiting.units (sym c.is_empty.ensures ∙ c.if-is_empty.true)))
+    c.if-self.false (none_waits u.waiting.units (eqb-true (length u.waiting.units) 0 (sym c.is_empty.ensures ∙ c.if-is_empty.true))))
 
 pub returns-then-is_empty-clause-any_moment : goal.returns-then-is_empty-clause-any_moment
 returns-then-is_empty-clause-any_moment g c =
