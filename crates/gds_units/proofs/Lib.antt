@@ -1,3 +1,5 @@
 mod PatchedLemmas
 mod HeldLemmas
 mod DurableLemmas
+mod SayingLemmas
+mod ReadingLemmas
