@@ -24,6 +24,7 @@ impl<H: Host> Units<H> {
         ensures same { self.new ≡ record self.old {
             host = self.new.host; epoch = self.new.epoch; changed = self.new.changed; stopped = self.new.stopped } }
         ensures ok { OnOk result ((self.new.changed ≡ 0) × (self.new.epoch ≡ file_length_of self.old.header)) }
+        ensures err { OnErr result ((self.new.changed ≡ self.old.changed) × (self.new.epoch ≡ self.old.epoch)) }
         ensures stored { OnOk result (WhereTold H.told self.old
             (λ c image. IsStored H.moment H.left_since image c.said self.new.host)) }
         ensures any_moment { WhereTold H.told self.old
