@@ -2,4 +2,5 @@ mod PatchedLemmas
 mod HeldLemmas
 mod DurableLemmas
 mod SayingLemmas
+mod UnitLemmas
 mod ReadingLemmas
