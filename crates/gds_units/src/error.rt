@@ -1,6 +1,8 @@
 ghost use Rattle.std.specs.Prelude.{◌≡◌};
+ghost use Rattle.gds_units.specs.Opening.{unit_error};
 ghost use Rattle.gds_units.specs.declared.error.UnitError.TheVariants.{WriteFault};
 
+use gds_recovery::RecoveryError;
 use host_model::{Host, HostFailed};
 use thiserror::Error;
 
@@ -48,6 +50,21 @@ impl From<HostFailed> for UnitError {
     /// A call that writes or syncs failed.
     fn from(_: HostFailed) -> UnitError {
         UnitError::WriteFault
+    }
+}
+
+impl From<RecoveryError> for UnitError {
+    ghost from_gives = { λ error whole. whole ≡ unit_error error };
+
+    fn from(error: RecoveryError) -> UnitError {
+        match error {
+            RecoveryError::Memory => UnitError::Memory,
+            RecoveryError::ReadFault => UnitError::ReadFault,
+            RecoveryError::WriteFault => UnitError::WriteFault,
+            RecoveryError::BadImages { at } => UnitError::BadImages { at },
+            RecoveryError::Unsound { faults } => UnitError::Unsound { faults },
+            RecoveryError::Changed { unit } => UnitError::Changed { unit },
+        }
     }
 }
 

@@ -1,4 +1,5 @@
 mod durable;
+mod opening;
 mod reading;
 
 ghost use Rattle.std.specs.Prelude.{◌≡◌, ◌≤◌, length};
