@@ -1,1 +1,4 @@
 mod OpeningLemmas
+mod PatchedLemmas
+mod HeldLemmas
+mod DurableLemmas
