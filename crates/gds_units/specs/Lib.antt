@@ -5,3 +5,4 @@ pub mod Plan
 pub mod Reading
 pub mod Ending
 pub mod Opening
+pub mod Laws

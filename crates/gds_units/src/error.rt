@@ -1,9 +1,10 @@
 ghost use Rattle.std.specs.Prelude.{◌≡◌};
 ghost use Rattle.gds_units.specs.Opening.{unit_error};
+ghost use Rattle.gds_units.specs.Reading.{trouble_of};
 ghost use Rattle.gds_units.specs.declared.error.UnitError.TheVariants.{WriteFault};
 
 use gds_recovery::RecoveryError;
-use host_model::{Host, HostFailed};
+use host_model::{Host, HostFailed, UnitTrouble};
 use thiserror::Error;
 
 /// Why a call on the units of a database failed.
@@ -64,6 +65,19 @@ impl From<RecoveryError> for UnitError {
             RecoveryError::BadImages { at } => UnitError::BadImages { at },
             RecoveryError::Unsound { faults } => UnitError::Unsound { faults },
             RecoveryError::Changed { unit } => UnitError::Changed { unit },
+        }
+    }
+}
+
+impl From<UnitError> for UnitTrouble {
+    ghost from_gives = { λ error trouble. trouble ≡ trouble_of error };
+
+    /// Of the errors that reading a unit ends with.
+    fn from(error: UnitError) -> UnitTrouble {
+        match error {
+            UnitError::Memory => UnitTrouble::Memory,
+            UnitError::Changed { unit } => UnitTrouble::Changed { unit },
+            _ => UnitTrouble::Failed,
         }
     }
 }
