@@ -2,3 +2,5 @@ mod OpeningLemmas
 mod PatchedLemmas
 mod HeldLemmas
 mod DurableLemmas
+mod SayingLemmas
+mod ReadingLemmas
