@@ -4,3 +4,4 @@ mod HeldLemmas
 mod DurableLemmas
 mod SayingLemmas
 mod ReadingLemmas
+mod SourcingLemmas
