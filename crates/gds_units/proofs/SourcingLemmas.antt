@@ -1,5 +1,5 @@
 -- The image as a source of units has it.
-use Rattle.std.proofs.Common.{◌≡◌, ℕ, ◌<◌, ◌≤◌, ◌+◌, Bool, List, [], ◌∷◌, ◌++◌, length, take, drop, Option, None, Some, IfSome}
+use Rattle.std.proofs.Common.{◌≡◌, ℕ, ◌<◌, ◌≤◌, ◌+◌, Bool, List, [], ◌∷◌, ◌++◌, length, take, drop, Option, None, Some, IfSome, Result, Err}
 use Rattle.std.proofs.Common.{refl, sym, ap, subst, ◌∙◌, arith, length-take}
 use Rattle.std.specs.Prelude.{All, option_map}
 use Rattle.std.specs.Option.{ForSome}
@@ -12,6 +12,12 @@ use Rattle.gds_images.specs.Group.{Image}
 use Rattle.gds_epoch.specs.Epoch.{database_of}
 use Rattle.gds_epoch.specs.Waiting.{HasBytes, WaitingUnit, patched, place_of}
 use Rattle.gds_epoch.proofs.UnitLemmas.{length-patched}
+use Rattle.gds_units.specs.Ending.{EndsReading}
+use Rattle.gds_units.specs.Reading.{trouble_of}
+use Rattle.gds_units.specs.declared.error.UnitError.{UnitError}
+use Rattle.gds_units.specs.declared.error.UnitError.TheVariants as answer
+use Rattle.host_model.specs.Failures.{Failures}
+use Rattle.host_model.specs.declared.units.UnitTrouble.TheVariants as trouble
 use Rattle.gds_units.specs.Held.{AreInPlace, AreUnits, IsHeld}
 use Rattle.gds_units.specs.State.{UnitsState, file_with, image_of}
 use Rattle.gds_units.proofs.HeldLemmas.{inside_more}
@@ -70,3 +76,18 @@ module _ {H : Type 0} {told : H → Option Contents} {moment : H → ℕ} {left_
         let resting = are.resting going c (sym same ∙ tells) in
         record { each = λ d left. resting.each d (stays d left); old = resting.old };
   }
+
+-- Where reading a unit ended since it has changed, the host tells nothing.
+pub changed_untold : (told : Option Contents) (before now : Failures) (error : UnitError) (unit : ℕ)
+    → EndsReading {T = Unit {0}} told before now (Err error) → trouble_of error ≡ trouble.Changed unit → told ≡ None
+changed_untold told before now answer.Memory unit ends is = absurd (cc)
+changed_untold told before now answer.ReadFault unit ends is = absurd (cc)
+changed_untold told before now (answer.Changed n) unit ends is = ends
+changed_untold told before now _ unit ends is = absurd ends
+
+pub if_told : {A : Type 0} (told : Option A) (P : A → Type 0) → ForSome told P → IfSome told P
+if_told None P is = tt
+if_told (Some x) P is = is x refl
+
+pub same_err : {T E : Type 0} (r : Result T E) (a b : E) → r ≡ Err a → r ≡ Err b → a ≡ b
+same_err r a b first second = cc
