@@ -1,0 +1,13 @@
+//! Makes the two files of a new database.
+//!
+//! The file of images is made first, and then the database file, whose label is written last. A crash at any moment
+//! leaves files that an opening refuses, or of which it finds the whole new database.
+#![tactic(auto)]
+
+mod blocks;
+mod error;
+mod first;
+
+pub use blocks::fill_blocks;
+pub use error::CreateError;
+pub use first::new_header;
