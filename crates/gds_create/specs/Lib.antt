@@ -1,1 +1,4 @@
 pub mod Blocks
+pub mod Newborn
+pub mod Making
+pub mod Errors
