@@ -5,7 +5,7 @@ use Rattle.std.proofs.Common.{length-take, length-drop, length-append, get_or-ta
 use Rattle.std.specs.Prelude.{nat_eq, not}
 use Rattle.std.specs.List.{starts_with}
 use Rattle.std.proofs.lemmas.Bool.{cases_Bool, cases_lt}
-use Rattle.std.proofs.lemmas.List.{ext_get_or, take-append-drop, take_all}
+use Rattle.std.proofs.lemmas.List.{drop_at, ext_get_or, take-append-drop, take_all}
 use Rattle.std.proofs.lemmas.Slice.Eq.{bytes_eq-Decides}
 use Rattle.gds_block.specs.Fields.{u64_at}
 use Rattle.host_model.specs.Disk.{Torn}
@@ -106,6 +106,9 @@ empty_refused c empty = ⊎_elim
 -- ---- The database file, step by step.
 
 module _ (h : Header) where
+  pub not_begun : (file : List ℕ) → file ≡ [] → IsUnderWay h file
+  not_begun file empty = inl (short_unreadable file (omega (arith, ap length empty)))
+
   -- A torn write of a few bytes into an empty file.
   pub begun : (n : ℕ) (old new : List ℕ) → n < 8192 → old ≡ [] → Torn 0 n old new → IsUnderWay h new
   begun n old new few empty torn =
@@ -121,7 +124,7 @@ module _ (h : Header) where
       inl (not_labelled new (λ is. omega (arith, first, is)))
 
   -- A torn write of the label, where all else is there.
-  pub labelled : (old new : List ℕ) → take 8 (new_database h) ≡ label → 8 ≤ length old
+  labelled : (old new : List ℕ) → take 8 (new_database h) ≡ label → 8 ≤ length old
       → drop 8 old ≡ drop 8 (new_database h) → Torn 0 8 old new → IsUnderWay h new
   labelled old new front long rest torn =
       let shorter = torn.no_shorter in
@@ -130,6 +133,15 @@ module _ (h : Header) where
       decided_by_label new (new_database h) front (ext_get_or 0 (drop 8 new) (drop 8 old) len
       (λ i lt. get_or-drop 8 new i 0 ∙ torn.behind (8 + i) (omega (arith, length-drop 8 old)) (omega arith)
       ∙ sym (get_or-drop 8 old i 0)) ∙ rest)
+
+  pub labelled_yet : (front new : List ℕ) → take 8 (new_database h) ≡ label → front ≡ zeros 8
+      → Torn 0 8 (front ++ drop 8 (new_database h)) new → IsUnderWay h new
+  unfolding zeros
+  labelled_yet front new first are torn =
+      let len : length front ≡ 8 = ap length are in
+      labelled (front ++ drop 8 (new_database h)) new first
+      (omega (arith, len, length-append front (drop 8 (new_database h))))
+      (drop_at front (drop 8 (new_database h)) 8 len) torn
 
   -- What an opening makes of it beside a closed file of images.
   pub being_newborn : IsWithinLimits h → (before c : Contents) → IsClosed c.images → IsUnderWay h c.db

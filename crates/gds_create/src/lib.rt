@@ -5,9 +5,13 @@
 #![tactic(auto)]
 
 mod blocks;
+mod create;
+mod database;
 mod error;
 mod first;
+mod images;
 
 pub use blocks::fill_blocks;
+pub use create::create_files;
 pub use error::CreateError;
 pub use first::new_header;
