@@ -1,6 +1,6 @@
 -- The files, write by write.
-use Rattle.std.proofs.Common.{◌≡◌, ℕ, ◌+◌, ◌*◌, ◌<◌, ◌≤◌, List, [], ◌∷◌, ◌++◌, length, take, drop, replicate, Option, None, Some}
-use Rattle.std.proofs.Common.{Result, Ok, Err, refl, sym, ap, subst, ◌∙◌, arith, append-nil, append_assoc, length-append, length-drop, lit≤}
+use Rattle.std.proofs.Common.{◌≡◌, ℕ, ◌+◌, ◌*◌, ◌≤◌, List, [], ◌++◌, length, take, drop, replicate, Option, None, Some}
+use Rattle.std.proofs.Common.{Result, refl, sym, ap, subst, ◌∙◌, arith, append-nil, append_assoc, length-append, length-drop, lit≤}
 use Rattle.std.specs.Prelude.{IfSome}
 use Rattle.std.specs.Option.{ForSome}
 use Rattle.std.proofs.lemmas.List.{drop-append-le, take-append-drop, take_all, take-take}
@@ -25,7 +25,7 @@ use Rattle.gds_new.specs.NewDatabase.{new_block, new_database, new_header}
 use Rattle.gds_new.proofs.BlockLemmas.{length-new_block}
 use Rattle.gds_new.proofs.HeaderLemmas.{new_header_long}
 use Rattle.gds_new.proofs.PieceLemmas.{length-pieces}
-use Rattle.gds_new.proofs.ReadLemmas.{front_read, length_read}
+use Rattle.gds_new.proofs.ReadLemmas.{front_read}
 use Rattle.gds_recovery.specs.Steps.{WasChangedBy}
 use Rattle.gds_recovery.proofs.WorkLemmas.{Changes-then, Changes-weaker, changed_read, changed_then, changed_weaker}
 use Rattle.gds_create.specs.Blocks.{new_blocks}

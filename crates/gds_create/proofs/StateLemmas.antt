@@ -1,8 +1,8 @@
 -- What an opening makes of files that become a new database.
-use Rattle.std.proofs.Common.{◌≡◌, ◌⊎◌, ◌≢◌, ℕ, ◌+◌, ◌<◌, ◌≤◌, Bool, true, false, List, [], ◌∷◌, ◌++◌, length, take, drop}
-use Rattle.std.proofs.Common.{Option, None, Some, Result, Ok, Err, refl, sym, ap, subst, ◌∙◌, arith, lit≤, lit<, inl, inr, ⊎_elim, max}
+use Rattle.std.proofs.Common.{◌≡◌, ◌⊎◌, ◌≢◌, ℕ, ◌+◌, ◌<◌, ◌≤◌, Bool, true, false, List, [], ◌++◌, length, take, drop}
+use Rattle.std.proofs.Common.{None, Some, Result, Ok, Err, refl, sym, ap, subst, ◌∙◌, arith, lit≤, lit<, inl, inr, ⊎_elim}
 use Rattle.std.proofs.Common.{length-take, length-drop, length-append, get_or-take, get_or-drop, slice_index, cond, eqb}
-use Rattle.std.specs.Prelude.{nat_eq, not}
+use Rattle.std.specs.Prelude.{nat_eq}
 use Rattle.std.specs.List.{starts_with}
 use Rattle.std.proofs.lemmas.Bool.{cases_Bool, cases_lt}
 use Rattle.std.proofs.lemmas.List.{drop_at, ext_get_or, take-append-drop, take_all}
@@ -11,23 +11,23 @@ use Rattle.gds_block.specs.Fields.{u64_at}
 use Rattle.host_model.specs.Disk.{Torn}
 use Rattle.host_model.specs.Files.{Contents}
 use Rattle.gds_header.specs.declared.header.Header.{Header}
-use Rattle.gds_header.specs.Fields.{header_bytes, label, zeros}
-use Rattle.gds_header.specs.Kinds.{IsWithinLimits, ending_kind, unreadable}
+use Rattle.gds_header.specs.Fields.{label, zeros}
+use Rattle.gds_header.specs.Kinds.{IsWithinLimits, unreadable}
 use Rattle.gds_header.specs.declared.kind.HeaderKind.TheVariants.{NotDatabase}
 use Rattle.gds_header.proofs.EndingLemmas.{ending_kind-unreadable, unreadable-front}
 use Rattle.gds_images.specs.declared.chain.Chain.{Chain}
 use Rattle.gds_images.specs.Chain.{chain_of, first_gate}
-use Rattle.gds_images.specs.Outcome.{IsClosed, IsWhole}
+use Rattle.gds_images.specs.Outcome.{IsClosed}
 use Rattle.gds_images.specs.Recovered.{laid, laid_back, recovered, recovered_by, trimmed, trimmed_by}
 use Rattle.gds_images.proofs.ChainLemmas.{IsClosedChain, IsOpenChain, chain_of_cases}
 use Rattle.gds_images.proofs.GateLemmas.{chain_closes}
 use Rattle.gds_images.proofs.RestLemmas.{rest_found}
-use Rattle.gds_new.specs.NewDatabase.{new_database, new_header}
+use Rattle.gds_new.specs.NewDatabase.{new_database}
 use Rattle.gds_new.proofs.ReadLemmas.{nothing_ends, whole_read}
-use Rattle.gds_recovery.specs.Found.{EndsReading, IsUnreadable}
+use Rattle.gds_recovery.specs.Found.{IsUnreadable}
 use Rattle.gds_recovery.proofs.TrimLemmas.{ends_reading, short_unreadable}
 use Rattle.gds_create.specs.Making.{IsUnderWay, KeepsFirst}
-use Rattle.gds_create.specs.Newborn.{IsNewborn, IsRefused, closed_images}
+use Rattle.gds_create.specs.Newborn.{IsNewborn, IsRefused}
 
 -- ---- Files without a label.
 

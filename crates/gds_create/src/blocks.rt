@@ -1,6 +1,5 @@
 //! The bytes of a new database's blocks.
 ghost use Rattle.std.specs.Prelude.{◌≡◌, ◌+◌, ◌*◌, ◌<◌, ◌≤◌, ◌^◌, length, replicate};
-ghost use Rattle.gds_header.specs.Fields.{zeros};
 ghost use Rattle.gds_header.specs.Kinds.{IsWithinLimits};
 ghost use Rattle.gds_new.specs.NewDatabase.{new_block, new_leaf, new_map, new_root};
 ghost use Rattle.gds_create.specs.Blocks.{new_blocks};
@@ -11,13 +10,14 @@ use gds_header::Header;
 
 /// The level and the used bytes of a map's head.
 const MAP_LEVEL: u8 = 255;
+
 const MAP_USED: u32 = 144;
 
 /// The one record of block 1: a star, which points to block 2.
 const STAR: [u8; 8] = [8, 0, 0, 0, 2, 0, 0, 0];
 
 /// Fills a piece of memory with neighbouring blocks of a new database.
-pub fn fill_blocks(header: &Header, first: u32, count: u32, out: &mut [u8])
+pub(crate) fn fill_blocks(header: &Header, first: u32, count: u32, out: &mut [u8])
     requires limits { IsWithinLimits header.now }
     requires within { first + count ≤ header.now.total }
     requires room { length out.old ≡ count * header.now.block_size }

@@ -12,7 +12,7 @@ pub(crate) const GROUP: u32 = 512;
 
 /// The header of a new database with the numbers of this one: all blocks but the maps and two more are free, and the
 /// first transaction is the next.
-pub fn new_header(header: &Header) -> Header
+pub(crate) fn new_header(header: &Header) -> Header
     requires { IsWithinLimits header.now }
     ensures new { result ≡ new_header header.now }
     ensures limits { IsWithinLimits result }
@@ -57,7 +57,11 @@ fn bit(header: &Header, group: u32) -> u8
     ensures bit { result ≡ bit_of (group_starts_free header.now group) }
     ensures low { result ≤ 1 }
 {
-    if group_starts_free(header, group) { 1 } else { 0 }
+    if group_starts_free(header, group) {
+        1
+    } else {
+        0
+    }
 }
 
 fn group_starts_free(header: &Header, group: u32) -> bool

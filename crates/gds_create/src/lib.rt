@@ -11,7 +11,5 @@ mod error;
 mod first;
 mod images;
 
-pub use blocks::fill_blocks;
 pub use create::create_files;
 pub use error::CreateError;
-pub use first::new_header;

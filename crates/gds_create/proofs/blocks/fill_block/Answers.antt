@@ -1,4 +1,4 @@
-use Rattle.std.proofs.Common.{ap, replicate, ◌∙◌, refl}
+use Rattle.std.proofs.Common.{◌∙◌}
 use Rattle.gds_header.proofs.WritingLemmas.{zeros-replicate}
 use Rattle.gds_create.proofs.BlockLemmas.{block_leaf, block_map, block_root, block_zeros}
 use Rattle.gds_create.proofs.blocks.fill_block.Goals as goal

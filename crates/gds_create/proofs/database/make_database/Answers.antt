@@ -1,4 +1,4 @@
-use Rattle.std.proofs.Common.{replicate, refl}
+use Rattle.std.proofs.Common.{replicate}
 use Rattle.std.proofs.lemmas.Result.{on_ok_weaker}
 use Rattle.host_model.specs.declared.host.FileNo.TheVariants.{Db}
 use Rattle.host_model.specs.Disk.{Changes, Writes, written}
