@@ -1,5 +1,6 @@
 -- The bytes of a new database's blocks, as they are put into memory.
-use Rattle.std.proofs.Common.{◌≡◌, ℕ, zero, suc, ◌+◌, ◌-◌, ◌*◌, ◌/◌, ◌%◌, ◌<◌, ◌≤◌, List, [], ◌∷◌, ◌++◌, length, take, drop}
+use Rattle.std.proofs.Common.{◌≡◌, ℕ, zero, suc, ◌+◌, ◌-◌, ◌*◌, ◌/◌, ◌%◌, ◌<◌, ◌≤◌, List, [], ◌∷◌, ◌++◌, length, take}
+use Rattle.std.proofs.Common.{drop}
 use Rattle.std.proofs.Common.{replicate, refl, sym, ap, ◌∙◌, arith, map, slice_set, flat_map, append-nil}
 use Rattle.std.specs.Prelude.{◌==◌, true, false}
 use Rattle.std.specs.List.{range_with_len}
@@ -77,7 +78,8 @@ unfolding new_blocks
 blocks_one h first = append-nil (new_block h first)
 
 -- a block more
-pub block_more : (h : Header) (first i : ℕ) → new_blocks h first (i + 1) ≡ new_blocks h first i ++ new_block h (first + i)
+pub block_more : (h : Header) (first i : ℕ)
+    → new_blocks h first (i + 1) ≡ new_blocks h first i ++ new_block h (first + i)
 block_more h first i = blocks_more h first i 1 ∙ ap (λ xs. new_blocks h first i ++ xs) (blocks_one h (first + i))
 
 -- Block i of some lies among them.

@@ -1,5 +1,6 @@
 -- What each crash leaves while the files are made: a chain from stage to stage.
-use Rattle.std.proofs.Common.{◌≡◌, ℕ, ◌≤◌, List, [], ◌++◌, Option, Result, Ok, Err, OnOk, drop, take, replicate, refl, sym, ap, subst, ◌∙◌, inl, lit<}
+use Rattle.std.proofs.Common.{◌≡◌, ℕ, ◌≤◌, List, [], ◌++◌, Option, Result, Ok, Err, OnOk, drop, take, replicate, refl}
+use Rattle.std.proofs.Common.{sym, ap, subst, ◌∙◌, inl, lit<}
 use Rattle.host_model.specs.declared.host.FileNo.TheVariants.{Db, Images}
 use Rattle.host_model.specs.Disk.{Changes, Settles, Torn, during, written}
 use Rattle.host_model.specs.Files.{Contents, with_file}
@@ -79,7 +80,8 @@ module _ {H : Type 0} {moment : H → ℕ} {left_since : H → ℕ → Contents 
         → HasCome moment left_since old new (IsBeingMade h now)
         (during (Changes Db (KeepsFirst 8)) (λ c. c ≡ with_file Db (written 0 (replicate 8 0) now.db) now))
     rest_come each by settled more =
-        making_more (KeepsFirst 8) (blank now) (making_settled (Torn 0 8) now.db (blank now) (zeros_come each by) settled) more
+        making_more (KeepsFirst 8) (blank now)
+        (making_settled (Torn 0 8) now.db (blank now) (zeros_come each by) settled) more
         (λ new keeps. unlabelled_yet h (blank now) new (database_begun now.db empty) keeps)
 
     -- and the label
@@ -93,7 +95,8 @@ module _ {H : Type 0} {moment : H → ℕ} {left_since : H → ℕ → Contents 
         (λ c. c ≡ with_file Db (written 0 (replicate 8 0) now.db ++ drop 8 (new_database h)) now))
     label_come limits each by settled more settled_too last =
         making_more (Torn 0 8) (blank now ++ drop 8 (new_database h))
-        (making_settled (KeepsFirst 8) (blank now) (blank now ++ drop 8 (new_database h)) (rest_come each by settled more)
+        (making_settled (KeepsFirst 8) (blank now) (blank now ++ drop 8 (new_database h))
+        (rest_come each by settled more)
         settled_too) last
         (λ new torn. labelled_yet h (blank now) new (label_first h limits) (database_begun now.db empty) torn)
 

@@ -24,7 +24,8 @@ write_batch-requires-clause-end g c y tells =
     let h = g.H.Host in
     let header = c.args.header.now in
     let next = c.loop-next.next in
-    let was = was_told (h.told c.args.host.now) (h.told c.loop-next.host) y c.loop-next.invariant.changed.untold tells in
+    let was = was_told (h.told c.args.host.now) (h.told c.loop-next.host) y c.loop-next.invariant.changed.untold
+    tells in
     let x = was.0 in
     let is = same_Some (with_file Db (x.db ++ new_blocks header 0 next) x) y
     (sym (c.loop-next.invariant.written x was.1) ∙ tells) in

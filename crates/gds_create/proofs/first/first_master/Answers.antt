@@ -15,4 +15,5 @@ loop-i-preserved c =
 pub returns : goal.returns
 returns c =
     let test = c.loop-i-test.false in
-    all_master c.args.header.now c.loop-i.i c.loop-i.master (omega (arith, c.loop-i.auto.i-end)) c.loop-i.invariant.len c.loop-i.invariant.right
+    all_master c.args.header.now c.loop-i.i c.loop-i.master (omega (arith, c.loop-i.auto.i-end))
+    c.loop-i.invariant.len c.loop-i.invariant.right

@@ -19,4 +19,5 @@ loop-i-preserved c =
 pub returns : goal.returns
 returns c =
     let test = c.loop-i-test.false in
-    all_pairs c.args.header.now c.args.group c.loop-i.i c.loop-i.pairs (omega (arith, c.loop-i.auto.i-end)) c.loop-i.invariant.len c.loop-i.invariant.right
+    all_pairs c.args.header.now c.args.group c.loop-i.i c.loop-i.pairs (omega (arith, c.loop-i.auto.i-end))
+    c.loop-i.invariant.len c.loop-i.invariant.right
