@@ -22,7 +22,7 @@ each_block P h maps root leaf zero n =
     cond_each P (n % 512 == 0) _ _ (maps (n / 512))
     (cond_each P (n == 1) _ _ root (cond_each P (n == 2) _ _ leaf zero))
 
-length-pairs_bytes : (h : Header) (group : ℕ) → length (pairs_bytes h group) ≡ 128
+pub length-pairs_bytes : (h : Header) (group : ℕ) → length (pairs_bytes h group) ≡ 128
 unfolding pairs_bytes
 length-pairs_bytes h group =
     length-map-range_with_len (λ i. byte_of_states (λ j. first_state h (512 * group + (4 * i + j)))) 0 128

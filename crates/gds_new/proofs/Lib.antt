@@ -2,3 +2,8 @@ pub mod PieceLemmas
 pub mod HeaderLemmas
 pub mod BlockLemmas
 pub mod ReadLemmas
+pub mod ByteLemmas
+pub mod CountLemmas
+pub mod MapLemmas
+pub mod MasterLemmas
+pub mod ReservedLemmas
