@@ -7,3 +7,6 @@ pub mod CountLemmas
 pub mod MapLemmas
 pub mod MasterLemmas
 pub mod ReservedLemmas
+pub mod DirectoryLemmas
+pub mod BytesLemmas
+pub mod SoundLemmas

@@ -1,7 +1,3 @@
-use Rattle.gds_new.proofs.CountLemmas.{counted}
-use Rattle.gds_new.proofs.MapLemmas.{busy_code}
-use Rattle.gds_new.proofs.MasterLemmas.{none_past}
-use Rattle.gds_new.proofs.ReservedLemmas.{reserved_none}
 use Rattle.gds_new.proofs.ReadLemmas.{nothing_ends, whole_read}
 use Rattle.gds_new.proofs.laws.new_is_whole.Goals as goal
 
