@@ -1,7 +1,8 @@
 -- A new database is made of bytes.
-use Rattle.std.proofs.Common.{◌≡◌, ℕ, ◌+◌, ◌-◌, ◌*◌, ◌<◌, ◌++◌, List, [], ◌∷◌, map, flat_map, get_or, arith, lit<}
+use Rattle.std.proofs.Common.{ℕ, ◌+◌, ◌-◌, ◌*◌, ◌<◌, ◌++◌, List, [], ◌∷◌, map, flat_map, get_or, arith, lit<}
 use Rattle.std.specs.List.{All, AllByRecursion, concat, range_with_len}
-use Rattle.std.proofs.lemmas.List.Elements.{All-nil, All-append, All-map, All-replicate, All-from_recursion, All-from_get_or}
+use Rattle.std.proofs.lemmas.List.Elements.{All-nil, All-append, All-map, All-replicate, All-from_recursion}
+use Rattle.std.proofs.lemmas.List.Elements.{All-from_get_or}
 use Rattle.gds_block.specs.Block.{head_bytes}
 use Rattle.gds_block.specs.Fields.{u16_bytes, u32_bytes, u64_bytes}
 use Rattle.gds_header.specs.declared.header.Header.{Header}
@@ -10,7 +11,7 @@ use Rattle.gds_new.specs.NewDatabase.{byte_of_states, first_state, byte_of_bits,
 use Rattle.gds_new.specs.NewDatabase.{first_master, new_header, new_map, new_root, new_leaf, new_block, new_database}
 use Rattle.gds_new.proofs.PieceLemmas.{All-pieces}
 use Rattle.gds_new.proofs.BlockLemmas.{each_block}
-use Rattle.gds_new.proofs.ByteLemmas.{byte_small, bits_small}
+use Rattle.gds_new.proofs.BitLemmas.{byte_small, bits_small}
 
 abbrev Bytes : List ℕ → Type 0
 Bytes xs = All (λ b. b < 256) xs
@@ -38,9 +39,19 @@ bytes_u32 n =
 bytes_u64 : (n : ℕ) → Bytes (u64_bytes n)
 unfolding u64_bytes
 bytes_u64 n =
-    All-from_recursion (λ b. b < 256) (u64_bytes n)
-    (omega arith, (omega arith, (omega arith, (omega arith,
-    (omega arith, (omega arith, (omega arith, (omega arith, tt))))))))
+    All-from_recursion (λ b. b < 256) (u64_bytes n) (
+      omega arith,
+      (
+        omega arith,
+        (
+          omega arith,
+          (
+            omega arith,
+            (omega arith, (omega arith, (omega arith, (omega arith, tt)))),
+          ),
+        ),
+      ),
+    )
 
 bytes_label : Bytes label
 bytes_label =
@@ -52,10 +63,37 @@ unfolding header_bytes
 bytes_header h master =
     bytes_concat (label ∷ u32_bytes h.block_size ∷ u32_bytes h.total ∷ u32_bytes h.free ∷ u32_bytes h.extension
     ∷ u32_bytes h.limit ∷ u32_bytes h.key_max ∷ u32_bytes h.value_max ∷ zeros 4 ∷ u64_bytes h.tn ∷ zeros 4048
-    ∷ h.master ∷ zeros 3840 ∷ [])
-    (bytes_label, (bytes_u32 h.block_size, (bytes_u32 h.total, (bytes_u32 h.free, (bytes_u32 h.extension,
-    (bytes_u32 h.limit, (bytes_u32 h.key_max, (bytes_u32 h.value_max, (bytes_zeros 4, (bytes_u64 h.tn,
-    (bytes_zeros 4048, (master, (bytes_zeros 3840, tt)))))))))))))
+    ∷ h.master ∷ zeros 3840 ∷ []) (
+      bytes_label,
+      (
+        bytes_u32 h.block_size,
+        (
+          bytes_u32 h.total,
+          (
+            bytes_u32 h.free,
+            (
+              bytes_u32 h.extension,
+              (
+                bytes_u32 h.limit,
+                (
+                  bytes_u32 h.key_max,
+                  (
+                    bytes_u32 h.value_max,
+                    (
+                      bytes_zeros 4,
+                      (
+                        bytes_u64 h.tn,
+                        (bytes_zeros 4048, (master, (bytes_zeros 3840, tt))),
+                      ),
+                    ),
+                  ),
+                ),
+              ),
+            ),
+          ),
+        ),
+      ),
+    )
 
 bytes_head : (level used tn : ℕ) → level < 256 → Bytes (head_bytes level used tn)
 bytes_head level used tn low =
@@ -100,9 +138,7 @@ module _ (h : Header) where
 
   bytes_leaf : Bytes (new_leaf h)
   unfolding new_leaf
-  bytes_leaf =
-      both (head_bytes 0 16 0) (zeros (h.block_size - 16)) (bytes_head 0 16 0 (lit< tt))
-      (bytes_zeros (h.block_size - 16))
+  bytes_leaf = both _ _ (bytes_head _ 16 0 (lit< tt)) (bytes_zeros (h.block_size - 16))
 
   bytes_block : (n : ℕ) → Bytes (new_block h n)
   bytes_block = each_block Bytes h bytes_map bytes_root bytes_leaf (bytes_zeros h.block_size)

@@ -1,14 +1,13 @@
 -- How many blocks of a new database are free, below a number and in a group.
-use Rattle.std.proofs.Common.{◌≡◌, ℕ, zero, suc, ◌+◌, ◌-◌, ◌*◌, ◌≤◌, ◌<◌, ◌==◌, ◌/◌, ◌%◌, Bool, true, false, not, ◌&&◌}
-use Rattle.std.proofs.Common.{if◌then◌else◌, List, [], ◌∷◌, ◌++◌, length, length-append, filter, flat_map, min, inl, inr, refl}
+use Rattle.std.proofs.Common.{◌≡◌, ℕ, zero, suc, ◌+◌, ◌-◌, ◌*◌, ◌≤◌, ◌<◌, ◌/◌, ◌%◌, Bool, true, false}
+use Rattle.std.proofs.Common.{if◌then◌else◌, List, ◌∷◌, length, length-append, filter, flat_map, min, inl, inr, refl}
 use Rattle.std.proofs.Common.{sym, ap, subst, ◌∙◌, arith}
-use Rattle.std.specs.Prelude.{nat_lt}
 use Rattle.std.specs.List.{range_with_len}
-use Rattle.std.proofs.lemmas.Bool.{and_left, and_right, and_from, cases_lt, cases_eq, eq-eqb, ne_eqb, lt-ltb, le-ltb}
-use Rattle.std.proofs.lemmas.Bool.{not_from_true, not_from_false}
+use Rattle.std.proofs.lemmas.Bool.{cases_lt, cases_eq, le-ltb}
 use Rattle.gds_bitmap.specs.Pairs.{count_below}
 use Rattle.gds_header.specs.declared.header.Header.{Header}
 use Rattle.gds_new.specs.NewDatabase.{starts_free, bit_of}
+use Rattle.gds_new.proofs.FreeLemmas.{map_is_busy, other_is_free, past_is_busy}
 
 -- ---- what a filter keeps of numbers one after another
 
@@ -54,18 +53,6 @@ module _ (p : ℕ → Bool) where
 -- ---- the blocks that are free at first
 
 module _ (h : Header) where
-  -- below the total and behind block 2
-  free_but_maps : (n : ℕ) → 3 ≤ n → n < h.total → n % 512 ≡ 0 → starts_free h n ≡ false
-  free_but_maps n low high map = and_right (nat_lt 2 n && nat_lt n h.total) _ (not_from_true _ (eq-eqb (n % 512) 0 map))
-
-  free_others : (n : ℕ) → 3 ≤ n → n < h.total → (n % 512 ≡ 0 → ⊥) → starts_free h n ≡ true
-  free_others n low high other =
-      and_from _ _ (and_from _ _ (lt-ltb 2 n (omega arith)) (lt-ltb n h.total high))
-      (not_from_false _ (ne_eqb (n % 512) 0 other))
-
-  none_past : (n : ℕ) → h.total ≤ n → starts_free h n ≡ false
-  none_past n high = and_left _ _ (and_right (nat_lt 2 n) _ (le-ltb n h.total high))
-
   -- of the blocks below a number all are free but two and the maps
   count_within : (n : ℕ) → 3 ≤ n → n ≤ h.total → count_below (starts_free h) n + 2 + (n + 511) / 512 ≡ n
   count_within zero low high = absurd (omega arith)
@@ -78,11 +65,11 @@ module _ (h : Header) where
         elim (cases_eq (n % 512) 0) [
           | inl map ↦
               let none : bit_of (starts_free h n) ≡ 0 =
-              ap bit_of (free_but_maps n more (omega arith) map) in
+              ap bit_of (map_is_busy h n map) in
               omega (arith, none)
           | inr other ↦
               let one : bit_of (starts_free h n) ≡ 1 =
-              ap bit_of (free_others n more (omega arith) other) in
+              ap bit_of (other_is_free h n more (omega arith) other) in
               omega (arith, one)
         ]
   ]
@@ -92,7 +79,7 @@ module _ (h : Header) where
   count_past (suc more) =
       let next : h.total + suc more ≡ suc (h.total + more) = omega arith in
       let none : bit_of (starts_free h (h.total + more)) ≡ 0 =
-      ap bit_of (none_past (h.total + more) (omega arith)) in
+      ap bit_of (past_is_busy h (h.total + more) (le-ltb (h.total + more) h.total (omega arith))) in
       ap (count_below (starts_free h)) next ∙ omega (arith, none, count_past more)
 
   pub counted : (n : ℕ) → 3 ≤ n → 3 ≤ h.total

@@ -2,7 +2,7 @@ pub mod PieceLemmas
 pub mod HeaderLemmas
 pub mod BlockLemmas
 pub mod ReadLemmas
-pub mod ByteLemmas
+pub mod BitLemmas
 pub mod CountLemmas
 pub mod MapLemmas
 pub mod MasterLemmas
@@ -10,3 +10,4 @@ pub mod ReservedLemmas
 pub mod DirectoryLemmas
 pub mod BytesLemmas
 pub mod SoundLemmas
+pub mod FreeLemmas

@@ -1,6 +1,6 @@
 -- How a new database is read: its header, its blocks and its length, and that nothing ends the reading of its header.
 use Rattle.std.proofs.Common.{◌≡◌, ℕ, ◌+◌, ◌*◌, ◌<◌, ◌≤◌, List, ◌++◌, length, length-append, take, drop, flat_map, None}
-use Rattle.std.proofs.Common.{refl, sym, ap, ◌∙◌, arith, lit≤, cond, ltb}
+use Rattle.std.proofs.Common.{refl, sym, ap, ◌∙◌, arith, lit≤, ltb}
 use Rattle.std.proofs.lemmas.Bool.{le-ltb, cond-false}
 use Rattle.std.specs.List.{range_with_len}
 use Rattle.std.proofs.lemmas.List.{take_at, drop_at, drop-drop}
@@ -39,7 +39,11 @@ module _ (h : Header) (limits : IsWithinLimits h) where
   length_read =
       ap length parts
       ∙ length-append (header_bytes (new_header h)) (flat_map (new_block h) (range_with_len 0 h.total))
-      ∙ omega (arith, new_header_long h limits, length-pieces (new_block h) h.block_size (length-new_block h room) 0 h.total)
+      ∙ omega (
+        arith,
+        new_header_long h limits,
+        length-pieces (new_block h) h.block_size (length-new_block h room) 0 h.total,
+      )
 
   pub block_read : (n : ℕ) → n < h.total → block_of (new_database h) n ≡ new_block h n
   unfolding new_header

@@ -1,6 +1,6 @@
 -- The bytes of a header that must be 0 are 0 in the header's bytes.
-use Rattle.std.proofs.Common.{◌≡◌, ℕ, ◌+◌, ◌-◌, ◌≤◌, ◌==◌, Bool, false, not, ◌||◌, List, [], ◌∷◌, ◌++◌, length, length-append}
-use Rattle.std.proofs.Common.{take, drop, refl, sym, ap, ◌∙◌, arith}
+use Rattle.std.proofs.Common.{◌≡◌, ℕ, ◌+◌, ◌==◌, Bool, false, not, ◌||◌, List, [], ◌∷◌, ◌++◌, length, length-append}
+use Rattle.std.proofs.Common.{take, drop, refl, sym, ap, ◌∙◌}
 use Rattle.std.specs.Prelude.{slice_range}
 use Rattle.std.specs.List.{concat, list_any}
 use Rattle.std.proofs.lemmas.List.{drop-drop, drop_at, take_at, drop-take, append-nil}

@@ -1,11 +1,11 @@
 -- A new database is sound, and stands for the map without nodes.
-use Rattle.std.proofs.Common.{◌≡◌, ℕ, suc, ◌+◌, ◌-◌, ◌*◌, ◌≤◌, ◌<◌, ◌==◌, ◌/◌, ◌%◌, ◌^◌, Bool, true, false, not, ◌&&◌}
-use Rattle.std.proofs.Common.{List, [], ◌∷◌, ◌++◌, length, map, flat_map, Some, inl, inr, refl, sym, ap, subst, ◌∙◌, arith}
-use Rattle.std.proofs.Common.{lit<, append_assoc, if◌then◌else◌, min}
-use Rattle.std.specs.Prelude.{nat_eq, nat_lt, nat_le}
+use Rattle.std.proofs.Common.{◌≡◌, ℕ, ◌+◌, ◌-◌, ◌*◌, ◌<◌, ◌==◌, ◌/◌, ◌%◌, Bool, true, false, not, ◌&&◌}
+use Rattle.std.proofs.Common.{List, [], ◌∷◌, ◌++◌, length, map, flat_map, Some, inl, inr, refl, sym, ap, subst, ◌∙◌}
+use Rattle.std.proofs.Common.{◌≤◌, ◌^◌, arith, lit<, lit≤, append_assoc, min}
+use Rattle.std.specs.Prelude.{nat_eq, nat_lt}
 use Rattle.std.specs.List.{IsDistinct, starts_with, list_any, range_with_len}
 use Rattle.std.specs.FinMap.{empty, entries, len-entries, len-empty}
-use Rattle.std.proofs.lemmas.Bool.{cond-true, eq-eqb, cases_lt, cases_eq, lt-ltb, le-ltb, lt-leb}
+use Rattle.std.proofs.lemmas.Bool.{cond-true, eq-eqb, cases_eq, lt-ltb, le-ltb, lt-leb, ltb-true, ltb_from_iff}
 use Rattle.std.proofs.lemmas.List.{nil_from_length}
 use Rattle.gds_block.specs.Block.{head_bytes, HasHead, version_of, reserved_of, level_of, used_of, tn_of}
 use Rattle.gds_block.proofs.HeadLemmas.{HasHead-head_bytes}
@@ -13,24 +13,23 @@ use Rattle.gds_bitmap.specs.State.{state_from, is_free}
 use Rattle.gds_bitmap.specs.Pairs.{count_below}
 use Rattle.gds_bitmap.specs.Bitmap.{pair_of, is_free_at}
 use Rattle.gds_header.specs.declared.header.Header.{Header}
-use Rattle.gds_header.specs.Fields.{label, zeros, fields_of, header_bytes, block_of, image_length}
+use Rattle.gds_header.specs.Fields.{label, zeros, fields_of, header_bytes, block_of}
 use Rattle.gds_header.specs.Kinds.{IsWithinLimits, header_faults, groups_of, has_free, groups_past, reserved_bytes}
 use Rattle.gds_header.proofs.EndingLemmas.{reserved_bytes-front}
 use Rattle.gds_law.specs.Maps.{map_of, is_present, free_places, has_free_place, free_blocks}
 use Rattle.gds_law.specs.Visit.{directory_root}
-use Rattle.gds_sound.specs.Sound.{Tree, is_in_use, tree_at, IsRightPair, IsRightMap, IsSound}
+use Rattle.gds_sound.specs.Sound.{is_in_use, tree_at, IsRightPair, IsRightMap, IsSound}
 use Rattle.gds_sound.specs.Stands.{StandsFor}
-use Rattle.gds_sound.proofs.PairLemmas.{readings_agree}
-use Rattle.gds_block.specs.Item.{Item}
-use Rattle.m_key.specs.Key.{key_bytes}
-use Rattle.m_key.specs.Globals.{Place, place_cmp}
-use Rattle.gds_sound.proofs.HeaderLemmas.{IsRightHeader, right_header}
-use Rattle.gds_new.specs.NewDatabase.{starts_free, first_state, group_starts_free, pairs_bytes, new_header, new_map}
-use Rattle.gds_new.specs.NewDatabase.{new_root, new_leaf, new_block, new_database, first_master}
+use Rattle.gds_sound.proofs.PairLemmas.{item_of, readings_agree}
+use Rattle.m_key.specs.Globals.{place_cmp}
+use Rattle.gds_sound.proofs.HeaderLemmas.{right_header}
+use Rattle.gds_new.specs.NewDatabase.{starts_free, group_starts_free, pairs_bytes, new_header, new_map}
+use Rattle.gds_new.specs.NewDatabase.{new_root, new_leaf, new_block, new_database}
 use Rattle.gds_new.proofs.HeaderLemmas.{new_limits, length-first_master}
 use Rattle.gds_new.proofs.ReservedLemmas.{reserved_none}
 use Rattle.gds_new.proofs.MasterLemmas.{has_free-new, none_past, first_place}
 use Rattle.gds_new.proofs.CountLemmas.{kept, kept_of_all, counted}
+use Rattle.gds_new.proofs.FreeLemmas.{free_is_present}
 use Rattle.gds_new.proofs.MapLemmas.{pair_of-new_map, busy_code, free_code, past_code, state_is_free}
 use Rattle.gds_new.specs.Laws.{empty_directory}
 use Rattle.gds_new.proofs.BytesLemmas.{bytes_read}
@@ -38,20 +37,11 @@ use Rattle.gds_new.proofs.DirectoryLemmas.{directory_sound}
 use Rattle.gds_new.proofs.ReadLemmas.{front_read, fields_read, block_read, whole_read, length_read}
 
 same_test : (a b c d : ℕ) → (a < b → c < d) → (c < d → a < b) → nat_lt a b ≡ nat_lt c d
-same_test a b c d to from = elim (cases_lt a b) [
-  | inl less ↦ lt-ltb a b less ∙ sym (lt-ltb c d (to less))
-  | inr more ↦ elim (cases_lt c d) [
-    | inl low ↦ absurd (omega (arith, from low, more))
-    | inr high ↦ le-ltb a b more ∙ sym (le-ltb c d high)
-  ]
-]
+same_test a b c d to from = ltb_from_iff (λ e. to (ltb-true a b e), λ l. lt-ltb a b (from l))
 
-abbrev node_item : Place × List ℕ → Item
-node_item e = record { key = key_bytes e.0.node; rest = e.1 }
-
-no_entries : map node_item (entries {R = place_cmp} empty) ≡ []
+no_entries : map item_of (entries {R = place_cmp} empty) ≡ []
 no_entries =
-    ap (map node_item)
+    ap (map item_of)
     (nil_from_length (entries {R = place_cmp} empty) (sym (len-entries empty) ∙ len-empty place_cmp (List ℕ)))
 
 two_blocks : IsDistinct nat_eq (1 ∷ 2 ∷ [])
@@ -66,9 +56,12 @@ module _ (h : Header) (limits : IsWithinLimits h) where
   unfolding new_header
   total_read = ap (λ g. g.total) (fields_read h limits)
 
-  tn_read : (fields_of image).tn ≡ 1
+  first_tn : (1 ≤ (new_header h).tn) × ((new_header h).tn ≤ 2 ^ 63)
   unfolding new_header
-  tn_read = ap (λ g. g.tn) (fields_read h limits)
+  first_tn = (lit≤ tt, lit≤ tt)
+
+  tn_read : (1 ≤ (fields_of image).tn) × ((fields_of image).tn ≤ 2 ^ 63)
+  tn_read = subst (λ (g : Header). (1 ≤ g.tn) × (g.tn ≤ 2 ^ 63)) (sym (fields_read h limits)) first_tn
 
   -- ---- the header
 
@@ -92,8 +85,8 @@ module _ (h : Header) (limits : IsWithinLimits h) where
     reserved = no_reserved;
     past = subst (λ g. list_any (has_free g) (groups_past g) ≡ false) (sym (fields_read h limits))
         (none_past h limits.total_from (omega arith));
-    some = omega (arith, tn_read);
-    small = omega (arith, tn_read);
+    some = tn_read.0;
+    small = tn_read.1;
   })
 
   -- ---- the maps
@@ -132,13 +125,7 @@ module _ (h : Header) (limits : IsWithinLimits h) where
         past = λ past. pair ∙ past_code h (512 * group + k) (present_read group k false past);
       }
 
-  -- ---- what is free
-
-  present_and : (a b c : Bool) → (b && (a && b && c)) ≡ (a && b && c)
-  present_and true true c = refl
-  present_and true false c = refl
-  present_and false true c = refl
-  present_and false false c = refl
+  -- ---- how many blocks are free
 
   free_at : (group k : ℕ) → group < groups_of h → k < 512
       → (is_present (fields_of image) group k && is_free_at (map_of image group) k) ≡ starts_free h (512 * group + k)
@@ -146,7 +133,7 @@ module _ (h : Header) (limits : IsWithinLimits h) where
       let pair = ap (λ m. pair_of m k) (map_read group inside) ∙ pair_of-new_map h group k low in
       (λ i. nat_lt (512 * group + k) (total_read i)
       && (ap (λ n. is_free (state_from n)) pair ∙ state_is_free h (512 * group + k)) i)
-      ∙ present_and (nat_lt 2 (512 * group + k)) (nat_lt (512 * group + k) h.total) (not ((512 * group + k) % 512 == 0))
+      ∙ free_is_present h (512 * group + k)
 
   pub group_kept : (group : ℕ) → group < groups_of h
       → length (free_places image group) + count_below (starts_free h) (512 * group)
@@ -157,26 +144,27 @@ module _ (h : Header) (limits : IsWithinLimits h) where
       omega (
         arith,
         kept (starts_free h) (λ k. is_present (fields_of image) group k && is_free_at (map_of image group) k)
-        (512 * group) 0 512 (λ k low. free_at group k inside (omega arith)),
+            (512 * group) 0 512 (λ k low. free_at group k inside (omega arith)),
         ap (count_below (starts_free h)) none,
         ap (count_below (starts_free h)) next,
       )
 
-  -- what a group counts, and whether that is any
   pub free_count : (fields_of image).free ≡ free_blocks image
   unfolding free_blocks new_header
   free_count =
       let all = kept_of_all (starts_free h) (free_places image) 512 0 (groups_of h)
       (λ group low. group_kept group (omega (arith, low))) in
-      let groups : groups_of (fields_of image) ≡ groups_of h = ap (λ n. (n + 511) / 512) total_read in
-      let own : (fields_of image).free ≡ h.total - groups_of h - 2 = ap (λ g. g.free) (fields_read h limits) in
+      let groups : groups_of h ≡ groups_of (fields_of image) = ap (λ n. (n + 511) / 512) (sym total_read) in
       let end : 512 * (0 + groups_of h) ≡ 512 * groups_of h = omega arith in
       let least : min (512 * groups_of h) h.total ≡ h.total = omega arith in
       let count : count_below (starts_free h) (512 * groups_of h) + 2 + (h.total + 511) / 512 ≡ h.total =
       subst (λ (m : ℕ). count_below (starts_free h) (512 * groups_of h) + 2 + (m + 511) / 512 ≡ m) least
       (counted h (512 * groups_of h) (omega arith) limits.total_from) in
-      own ∙ omega (arith, all, ap (count_below (starts_free h)) end, count)
-      ∙ ap (λ n. length (flat_map (free_places image) (range_with_len 0 n))) (sym groups)
+      ap (λ g. g.free) (fields_read h limits)
+      ∙ omega (arith, all, ap (count_below (starts_free h)) end, count)
+      ∙ ap (λ n. length (flat_map (free_places image) (range_with_len 0 n))) groups
+
+  -- ---- each group's map
 
   some_free : (group : ℕ) → group < groups_of h → has_free_place image group ≡ group_starts_free h group
   some_free group inside =
@@ -208,7 +196,7 @@ module _ (h : Header) (limits : IsWithinLimits h) where
         reserved = ap reserved_of read ∙ head.reserved;
         level = ap level_of read ∙ head.level;
         size = ap used_of read ∙ head.used;
-        tn = omega (arith, ap tn_of read, head.tn, tn_read);
+        tn = omega (arith, ap tn_of read, head.tn, tn_read.0);
         pairs = λ k within. pair_right group k inside within;
         master = ap (λ g. has_free g group) (fields_read h limits) ∙ has_free-new h group (omega (arith, inside))
             ∙ sym (some_free group inside);
@@ -229,14 +217,13 @@ module _ (h : Header) (limits : IsWithinLimits h) where
   size_read = ap (λ g. g.block_size) (fields_read h limits)
 
   tree_read : tree_at image directory_root ≡ Some empty_directory
-  unfolding new_root new_leaf
   tree_read =
-      directory_sound image (h.block_size - 24) (h.block_size - 16) root_read leaf_read
+      directory_sound image h root_read leaf_read
       (le-ltb (fields_of image).block_size 24 (omega (arith, size_read)))
       (le-ltb (fields_of image).block_size 16 (omega (arith, size_read)))
       (lt-leb (fields_of image).total 2 (omega (arith, total_read)))
       (lt-ltb 2 (fields_of image).total (omega (arith, total_read)))
-      (lt-leb (fields_of image).tn 0 (omega (arith, tn_read)))
+      (lt-leb (fields_of image).tn 0 (omega (arith, tn_read.0)))
 
   pub sound_read : IsSound image empty_directory []
   sound_read = record {

@@ -1,9 +1,10 @@
--- The bytes of a new map and of the master map: four states and eight bits read again.
-use Rattle.std.proofs.Common.{◌≡◌, ℕ, zero, suc, ◌+◌, ◌*◌, ◌≤◌, ◌<◌, ◌==◌, ◌/◌, ◌%◌, Bool, true, false, refl, ap, ◌∙◌, arith}
+-- The bytes of a new map and of the master map: the four states and the eight bits of a byte are read again.
+use Rattle.std.proofs.Common.{◌≡◌, ℕ, zero, suc, ◌+◌, ◌*◌, ◌≤◌, ◌<◌, ◌==◌, ◌/◌, ◌%◌, Bool, true, false}
+use Rattle.std.proofs.Common.{refl, ap, ◌∙◌, arith}
 use Rattle.std.specs.Int.{bit_at}
 use Rattle.gds_bitmap.specs.declared.state.State.{State}
 use Rattle.gds_bitmap.specs.declared.state.State.TheVariants.{Busy, New, Illegal, Recycled}
-use Rattle.gds_bitmap.specs.State.{code_of, state_from}
+use Rattle.gds_bitmap.specs.State.{code_of}
 use Rattle.gds_bitmap.specs.Pairs.{pair_in}
 use Rattle.gds_new.specs.NewDatabase.{byte_of_states, bit_of, byte_of_bits}
 
