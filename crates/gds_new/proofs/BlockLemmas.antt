@@ -1,6 +1,7 @@
 -- The blocks of a new database: each is as long as the header says.
-use Rattle.std.proofs.Common.{◌≡◌, ℕ, ◌+◌, ◌-◌, ◌*◌, ◌≤◌, ◌==◌, ◌/◌, ◌%◌, Bool, true, false, if◌then◌else◌, List, ◌++◌}
+use Rattle.std.proofs.Common.{◌≡◌, ℕ, ◌+◌, ◌-◌, ◌*◌, ◌≤◌, ◌==◌, ◌/◌, ◌%◌, List, ◌++◌}
 use Rattle.std.proofs.Common.{length, length-append, refl, arith}
+use Rattle.std.proofs.lemmas.Bool.{cond_both}
 use Rattle.std.proofs.lemmas.List.FromFn.{length-map-range_with_len}
 use Rattle.gds_block.specs.Block.{head_bytes}
 use Rattle.gds_block.specs.Fields.{u16_bytes, u32_bytes, u64_bytes}
@@ -10,19 +11,15 @@ use Rattle.gds_header.specs.Fields.{zeros}
 use Rattle.gds_new.specs.NewDatabase.{byte_of_states, first_state, pairs_bytes, new_map, new_root, new_leaf, new_block}
 use Rattle.gds_new.proofs.HeaderLemmas.{length-zeros}
 
-cond_each : {A : Type 0} (P : A → Type 0) (t : Bool) (a b : A) → P a → P b → P (if t then a else b)
-cond_each P true a b x y = x
-cond_each P false a b x y = y
-
 -- what holds of each kind of block holds of each block
-pub each_block : (P : List ℕ → Type 0) (h : Header) → ((group : ℕ) → P (new_map h group)) → P (new_root h) → P (new_leaf h)
-    → P (zeros h.block_size) → (n : ℕ) → P (new_block h n)
+pub each_block : (P : List ℕ → Type 0) (h : Header) → ((group : ℕ) → P (new_map h group)) → P (new_root h)
+    → P (new_leaf h) → P (zeros h.block_size) → (n : ℕ) → P (new_block h n)
 unfolding new_block
 each_block P h maps root leaf zero n =
-    cond_each P (n % 512 == 0) _ _ (maps (n / 512))
-    (cond_each P (n == 1) _ _ root (cond_each P (n == 2) _ _ leaf zero))
+    cond_both (n % 512 == 0) _ _ P (λ _. maps (n / 512))
+    (λ _. cond_both (n == 1) _ _ P (λ _. root) (λ _. cond_both (n == 2) _ _ P (λ _. leaf) (λ _. zero)))
 
-length-pairs_bytes : (h : Header) (group : ℕ) → length (pairs_bytes h group) ≡ 128
+pub length-pairs_bytes : (h : Header) (group : ℕ) → length (pairs_bytes h group) ≡ 128
 unfolding pairs_bytes
 length-pairs_bytes h group =
     length-map-range_with_len (λ i. byte_of_states (λ j. first_state h (512 * group + (4 * i + j)))) 0 128
@@ -51,7 +48,7 @@ module _ (h : Header) (room : 144 ≤ h.block_size) where
 
   length-new_leaf : length (new_leaf h) ≡ h.block_size
   unfolding new_leaf
-  length-new_leaf = filled (head_bytes 0 16 0) 16 h.block_size (length-head_bytes 0 16 0) (omega arith)
+  length-new_leaf = filled _ 16 h.block_size (length-head_bytes _ _ _) (omega arith)
 
   pub length-new_block : (n : ℕ) → length (new_block h n) ≡ h.block_size
   length-new_block =

@@ -1,6 +1,6 @@
 -- A list that is made of pieces of one length.
-use Rattle.std.proofs.Common.{◌≡◌, ℕ, zero, suc, ◌+◌, ◌*◌, ◌<◌, List, [], ◌∷◌, ◌++◌, length, length-append, take, drop}
-use Rattle.std.proofs.Common.{flat_map, refl, sym, ap, ◌∙◌, arith}
+use Rattle.std.proofs.Common.{◌≡◌, ℕ, zero, suc, ◌+◌, ◌*◌, ◌<◌, List, ◌++◌, length, length-append, take, drop}
+use Rattle.std.proofs.Common.{flat_map, sym, ap, ◌∙◌, arith}
 use Rattle.std.specs.List.{range_with_len, All}
 use Rattle.std.proofs.lemmas.List.{drop-drop, take_at, drop_at}
 use Rattle.std.proofs.lemmas.List.Elements.{All-nil, All-append}
@@ -14,7 +14,8 @@ module _ (f : ℕ → List ℕ) (size : ℕ) (even : (k : ℕ) → length (f k) 
       length-append (f from) (flat_map f (range_with_len (from + 1) n)) ∙ omega (arith, even from, rest, more)
 
   -- the piece at a place
-  pub piece_at : (from n k : ℕ) → k < n → take size (drop (k * size) (flat_map f (range_with_len from n))) ≡ f (from + k)
+  pub piece_at : (from n k : ℕ) → k < n
+      → take size (drop (k * size) (flat_map f (range_with_len from n))) ≡ f (from + k)
   piece_at from zero k low = absurd (omega arith)
   piece_at from (suc n) zero low =
       let none : 0 * size ≡ 0 = omega arith in

@@ -1,6 +1,6 @@
 -- How a new database is read: its header, its blocks and its length, and that nothing ends the reading of its header.
 use Rattle.std.proofs.Common.{◌≡◌, ℕ, ◌+◌, ◌*◌, ◌<◌, ◌≤◌, List, ◌++◌, length, length-append, take, drop, flat_map, None}
-use Rattle.std.proofs.Common.{refl, sym, ap, ◌∙◌, arith, lit≤, cond, ltb}
+use Rattle.std.proofs.Common.{refl, sym, ap, ◌∙◌, arith, lit≤, ltb}
 use Rattle.std.proofs.lemmas.Bool.{le-ltb, cond-false}
 use Rattle.std.specs.List.{range_with_len}
 use Rattle.std.proofs.lemmas.List.{take_at, drop_at, drop-drop}
@@ -24,9 +24,6 @@ module _ (h : Header) (limits : IsWithinLimits h) where
   room : 144 ≤ h.block_size
   room = omega arith
 
-  blocks : List ℕ
-  blocks = flat_map (new_block h) (range_with_len 0 h.total)
-
   parts : new_database h ≡ header_bytes (new_header h) ++ flat_map (new_block h) (range_with_len 0 h.total)
   unfolding new_database
   parts = refl
@@ -42,7 +39,24 @@ module _ (h : Header) (limits : IsWithinLimits h) where
   length_read =
       ap length parts
       ∙ length-append (header_bytes (new_header h)) (flat_map (new_block h) (range_with_len 0 h.total))
-      ∙ omega (arith, new_header_long h limits, length-pieces (new_block h) h.block_size (length-new_block h room) 0 h.total)
+      ∙ omega (
+        arith,
+        new_header_long h limits,
+        length-pieces (new_block h) h.block_size (length-new_block h room) 0 h.total,
+      )
+
+  pub block_read : (n : ℕ) → n < h.total → block_of (new_database h) n ≡ new_block h n
+  unfolding new_header
+  block_read n low =
+      ap (λ g. take g.block_size (drop (place_of g n) (new_database h))) fields_read
+      ∙ ap (λ xs. take h.block_size (drop (place_of h n) xs)) parts
+      ∙ behind (header_bytes (new_header h)) (flat_map (new_block h) (range_with_len 0 h.total)) 8192
+      (n * h.block_size) h.block_size (new_header_long h limits)
+      ∙ piece_at (new_block h) h.block_size (length-new_block h room) 0 h.total n low
+      ∙ ap (new_block h) zero_before
+    where
+      zero_before : 0 + n ≡ n
+      zero_before = omega arith
 
   same_length : file_length_of (new_header h) ≡ file_length_of h
   unfolding new_header

@@ -13,7 +13,8 @@ pub record IsWholeNew (h : Header) : Type 0 where
   pub readable : ending_kind (new_database h) ≡ None
   pub len : image_length (new_database h) ≡ length (new_database h)
 
--- Its header reads as the new header, its blocks as the new blocks, and it has the length that its header says.
+-- Its header reads as the new header, its blocks as the new blocks, it has the length that its header says, and it is
+-- made of bytes.
 pub record ReadsAsNew (h : Header) : Type 0 where
   pub fields : fields_of (new_database h) ≡ new_header h
   pub blocks : (n : ℕ) → n < h.total → block_of (new_database h) n ≡ new_block h n
@@ -30,7 +31,7 @@ pub record IsEmptyDatabase (h : Header) : Type 0 where
   pub sound : IsSound (new_database h) empty_directory []
   pub stands : StandsFor (new_database h) empty
 
--- So it is for each header within the limits.
+-- Two laws: so it is for each header within the limits.
 abbrev pub NewIsWhole : Type 0
 NewIsWhole = (h : Header) → IsWithinLimits h → IsWholeNew h
 
