@@ -16,8 +16,8 @@ use host_model::{FileNo, Host, HostFailed, store};
 use std::alloc::{AllocError, Global};
 use std::marker::Model;
 
-/// How many bytes stand at most between a gate and the images behind it: the length of the group, and behind gate 0 that
-/// of the epoch's database.
+/// How many bytes stand at most between a gate and the images behind it: the length of the group, and behind gate 0
+/// that of the epoch's database.
 const FRONT_ROOM: usize = 16;
 
 /// How many bytes the buffer of a group has at most, so that each place in a file of images is a number.

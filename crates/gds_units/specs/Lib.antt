@@ -4,3 +4,5 @@ pub mod Durable
 pub mod Plan
 pub mod Reading
 pub mod Ending
+pub mod Opening
+pub mod Laws

@@ -1,7 +1,10 @@
 ghost use Rattle.std.specs.Prelude.{◌≡◌};
+ghost use Rattle.gds_units.specs.Opening.{unit_error};
+ghost use Rattle.gds_units.specs.Reading.{trouble_of};
 ghost use Rattle.gds_units.specs.declared.error.UnitError.TheVariants.{WriteFault};
 
-use host_model::{Host, HostFailed};
+use gds_recovery::RecoveryError;
+use host_model::{Host, HostFailed, UnitTrouble};
 use thiserror::Error;
 
 /// Why a call on the units of a database failed.
@@ -48,6 +51,34 @@ impl From<HostFailed> for UnitError {
     /// A call that writes or syncs failed.
     fn from(_: HostFailed) -> UnitError {
         UnitError::WriteFault
+    }
+}
+
+impl From<RecoveryError> for UnitError {
+    ghost from_gives = { λ error whole. whole ≡ unit_error error };
+
+    fn from(error: RecoveryError) -> UnitError {
+        match error {
+            RecoveryError::Memory => UnitError::Memory,
+            RecoveryError::ReadFault => UnitError::ReadFault,
+            RecoveryError::WriteFault => UnitError::WriteFault,
+            RecoveryError::BadImages { at } => UnitError::BadImages { at },
+            RecoveryError::Unsound { faults } => UnitError::Unsound { faults },
+            RecoveryError::Changed { unit } => UnitError::Changed { unit },
+        }
+    }
+}
+
+impl From<UnitError> for UnitTrouble {
+    ghost from_gives = { λ error trouble. trouble ≡ trouble_of error };
+
+    /// Of the errors that reading a unit ends with.
+    fn from(error: UnitError) -> UnitTrouble {
+        match error {
+            UnitError::Memory => UnitTrouble::Memory,
+            UnitError::Changed { unit } => UnitTrouble::Changed { unit },
+            _ => UnitTrouble::Failed,
+        }
     }
 }
 

@@ -1,5 +1,7 @@
 mod durable;
+mod opening;
 mod reading;
+mod sourcing;
 
 ghost use Rattle.std.specs.Prelude.{◌≡◌, ◌≤◌, length};
 ghost use Rattle.std.specs.Option.{ForSome};

@@ -45,7 +45,8 @@ write_units-requires g c =
     λ y tells.
     subst (All (LiesWithin c.args.block_size _)) (sym c.as_slice.ensures.units)
     (units_inside c.args.block_size n images c.args.waiting.now.units zero c.requires.ready
-    c.requires.short c.append_group.ensures.ends two (λ none. c.open_gate.ensures.untold (c.append_group.ensures.untold none))
+    c.requires.short c.append_group.ensures.ends two
+    (λ none. c.open_gate.ensures.untold (c.append_group.ensures.untold none))
     (tells_gate (with_group n images) 1 zero one two
     (tells_group n images zero one c.in_ok-append_group.ensures.told) c.in_ok-open_gate.ensures.told) y tells)
 
@@ -220,7 +221,8 @@ ended g c now tells =
     (subst (λ us. LeavesBy g.H.Host.moment g.H.Host.left_since (UnitsTorn size us) two three)
     c.as_slice.ensures.units c.write_units.ensures.any_moment)
     c.close_gate.new.host
-    (units_settled size n images units zero c.requires.ready c.requires.short c.append_group.ensures.ends (g.H.Host.told two)
+    (units_settled size n images units zero c.requires.ready c.requires.short c.append_group.ensures.ends
+    (g.H.Host.told two)
     (λ none. c.open_gate.ensures.untold (c.append_group.ensures.untold none))
     (tells_gate (with_group n images) 1 zero one (g.H.Host.told two)
     (tells_group n images zero one c.in_ok-append_group.ensures.told) c.in_ok-open_gate.ensures.told)

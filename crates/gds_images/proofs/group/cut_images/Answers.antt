@@ -1,5 +1,5 @@
 use Rattle.std.proofs.Common.{◌∙◌}
-use Rattle.gds_images.proofs.BufferLemmas.{cut_made}
+use Rattle.gds_images.proofs.FirstLemmas.{cut_made}
 use Rattle.gds_images.proofs.group.cut_images.Goals as goal
 
 pub returns : goal.returns

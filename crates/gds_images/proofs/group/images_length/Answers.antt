@@ -1,5 +1,5 @@
 use Rattle.std.proofs.Common.{refl, arith}
-use Rattle.gds_images.proofs.BufferLemmas.{all_past, image_within, none_past, one_more_past}
+use Rattle.gds_images.proofs.FirstLemmas.{all_past, image_within, none_past, one_more_past}
 use Rattle.gds_images.proofs.group.images_length.Goals as goal
 
 pub loop-init : goal.loop-init

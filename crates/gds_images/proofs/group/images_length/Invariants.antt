@@ -1,4 +1,4 @@
-use Rattle.gds_images.proofs.BufferLemmas.{IsPast}
+use Rattle.gds_images.proofs.FirstLemmas.{IsPast}
 use Rattle.gds_images.proofs.group.images_length.Given as goal
 
 abbrev pub invariant-loop : goal.invariant-loop

@@ -1,6 +1,7 @@
 use Rattle.std.proofs.Common.{length, take, sym, ap, ◌∙◌, arith}
 use Rattle.std.proofs.lemmas.List.{take_all}
-use Rattle.gds_images.proofs.BufferLemmas.{buffer_count, buffer_cut, first_images}
+use Rattle.gds_images.proofs.BufferLemmas.{buffer_count}
+use Rattle.gds_images.proofs.FirstLemmas.{buffer_cut, first_images}
 use Rattle.gds_images.proofs.group.Group.truncate.Goals as goal
 
 pub cut_images-requires : goal.cut_images-requires
