@@ -4,3 +4,4 @@ pub mod Durable
 pub mod Plan
 pub mod Reading
 pub mod Ending
+pub mod Keeping
