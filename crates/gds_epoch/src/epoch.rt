@@ -47,6 +47,7 @@ pub fn write_epoch<H: Host>(
         (Rests (database_of (patched block_size waiting.now.units c.db)) c))) }
     ensures clock { H.moment host.new ≤ H.moment host.old + (3 * length waiting.now.units + 8) }
     ensures failures { NeverFell (H.failures host.old) (H.failures host.new) }
+    ensures failed { OnErr result (Rose (H.failures host.old).write (H.failures host.new).write) }
 {
     append_group(host, FIRST_GATE, images, epoch_length)?;
     open_gate(host, FIRST_GATE)?;

@@ -1,1 +1,5 @@
+mod PatchedLemmas
+mod HeldLemmas
+mod DurableLemmas
 mod PlanLemmas
+mod KeepingLemmas

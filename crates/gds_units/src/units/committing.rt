@@ -6,7 +6,7 @@ ghost use Rattle.host_model.specs.Moments.{LeavesTheSame};
 ghost use Rattle.host_model.specs.Told.{TellsOn};
 ghost use Rattle.gds_header.specs.Kinds.{unreadable};
 ghost use Rattle.gds_epoch.specs.Epoch.{IsKept};
-ghost use Rattle.gds_epoch.specs.WaitingView.{units_of};
+ghost use Rattle.gds_epoch.specs.WaitingView.{unit_of, units_of};
 ghost use Rattle.gds_units.specs.Durable.{KeepsOrStores, KeptAllOrStored};
 ghost use Rattle.gds_units.specs.Ending.{EndsCommit, EndsReading};
 ghost use Rattle.gds_units.specs.Keeping.{AddsTo, AreOld, EndsAtBlock, HasSize};
@@ -147,10 +147,41 @@ fn keep_each<H: Host>(
     ensures cause { EndsReading (H.told host.old) (H.failures host.old) (H.failures host.new) result }
 {
     for unit in plan {
-        let at = place_of(unit.unit, block_size);
-        if at < epoch_length && waiting.find(unit.unit).is_none() {
-            scratch.keep_unit(host, images, unit.unit, at, unit.bytes.len())?;
-        }
+        keep_one(host, images, scratch, waiting, unit, block_size, epoch_length)?;
     }
     Ok(())
+}
+
+/// Keeps the old bytes of one unit, unless they are kept already or the last epoch's database ends before it.
+fn keep_one<H: Host>(
+    host: &mut H,
+    images: &mut Group,
+    scratch: &mut Scratch,
+    waiting: &Waiting,
+    unit: &UnitBytes,
+    block_size: u32,
+    epoch_length: u64,
+) -> Result<(), UnitError>
+    requires block_from { 0 < block_size }
+    requires block_to { block_size ≤ 65024 }
+    requires blocks { EndsAtBlock block_size epoch_length }
+    requires size { HasSize block_size (unit_of unit.now) }
+    requires waiting_sizes { All (HasSize block_size) waiting.now.units }
+    requires waiting_kept { All (IsKept block_size epoch_length images.old) waiting.now.units }
+    requires old { ForSome (H.told host.old) (AreOld epoch_length images.old) }
+    ensures old { ForSome (H.told host.old) (AreOld epoch_length images.new) }
+    ensures added { AddsTo images.old images.new }
+    ensures kept { OnOk result (IsKept block_size epoch_length images.new (unit_of unit.now)) }
+    ensures read { WasRead H.told H.failures host.old host.new }
+    ensures crash { LeavesTheSame H.moment H.left_since host.old host.new }
+    ensures cause { EndsReading (H.told host.old) (H.failures host.old) (H.failures host.new) result }
+{
+    let at = place_of(unit.unit, block_size);
+    if at >= epoch_length {
+        return Ok(());
+    }
+    if waiting.find(unit.unit).is_some() {
+        return Ok(());
+    }
+    scratch.keep_unit(host, images, unit.unit, at, unit.bytes.len())
 }

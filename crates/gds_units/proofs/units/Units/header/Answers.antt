@@ -1,17 +1,19 @@
-use Rattle.std.proofs.Common.{rules, ◌≡◌, ◌≤◌, length, ℕ, ◌+◌, ◌-◌, ◌*◌, ◌<◌, ◌/◌, ◌%◌, Bool, true, false, nat_eq, nat_lt, List, [], ◌∷◌, ◌++◌, slice_index_or, slice_set, bit_and, bit_or, Fits, w8, w32, w64, Bor, MutBor}
+use Rattle.std.proofs.Common.{◌≡◌, subst}
 use Rattle.std.specs.Option.{ForSome}
 use Rattle.host_model.specs.Moments.{EachLeft}
-use Rattle.gds_header.specs.Fields.{fields_of, file_length_of}
-use Rattle.gds_header.specs.Kinds.{IsWithinLimits}
-use Rattle.gds_images.specs.Outcome.{IsWhole}
+use Rattle.gds_header.specs.Fields.{fields_of}
 use Rattle.gds_units.specs.Held.{IsRecoverable}
-use Rattle.gds_units.specs.State.{image_of}
+use Rattle.gds_units.specs.State.{UnitsState, image_of}
+use Rattle.gds_units.proofs.HeldLemmas.{image_fields}
 use Rattle.gds_units.proofs.units.Units.header.Goals as goal
 
--- src/units.rt:67:5
 pub returns-clause-fields : goal.returns-clause-fields
-returns-clause-fields g c = ?
+returns-clause-fields g c =
+    subst (λ (s : UnitsState g.row.H.Denot). ForSome (image_of s) (λ image. fields_of image ≡ s.header)) c.self.view_is
+    (image_fields c.self.inside.header c.self.inside.waiting.units c.self.inside.extent
+    (g.H.Host.told c.self.inside.host) c.self.invariant.held)
 
--- src/units.rt:67:5
 pub returns-clause-found : goal.returns-clause-found
-returns-clause-found g c = ?
+returns-clause-found g c =
+    subst (λ (s : UnitsState g.row.H.Denot). ForSome (g.H.Host.told s.host)
+    (λ _. EachLeft g.H.Host.moment g.H.Host.left_since s.host IsRecoverable)) c.self.view_is c.self.invariant.found
