@@ -3,3 +3,4 @@ mod HeldLemmas
 mod DurableLemmas
 mod PlanLemmas
 mod KeepingLemmas
+mod DropLemmas
