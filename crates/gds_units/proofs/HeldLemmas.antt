@@ -1,20 +1,22 @@
 -- What is known of units after a call on their host.
-use Rattle.std.proofs.Common.{◌≡◌, ◌⊎◌, ℕ, ◌+◌, ◌^◌, ◌<◌, ◌≤◌, Bool, true, false, List, [], length, take, Option, None, Some}
-use Rattle.std.proofs.Common.{refl, sym, ap, subst, ◌∙◌, arith, length-take, inl, inr, true≢false, ◌∷◌}
+use Rattle.std.proofs.Common.{◌≡◌, ◌⊎◌, ℕ, ◌+◌, ◌-◌, ◌^◌, ◌<◌, ◌≤◌, Bool, true, false, List, [], length, take, Option, None, Some}
+use Rattle.std.proofs.Common.{refl, sym, ap, subst, ◌∙◌, arith, length-take, replicate, inl, inr, true≢false, ◌∷◌}
 use Rattle.std.specs.Option.{ForSome}
 use Rattle.std.specs.Prelude.{All, option_map}
-use Rattle.std.proofs.lemmas.List.{take-take}
+use Rattle.std.proofs.lemmas.List.{length-replicate, take-take}
 use Rattle.std.proofs.lemmas.List.Elements.{All-nil, All-weaker}
 use Rattle.host_model.specs.Files.{Contents}
 use Rattle.host_model.specs.Moments.{EachLeft, HasCome, LeavesTheSame}
+use Rattle.host_model.specs.Disk.{written}
 use Rattle.host_model.specs.Told.{TellsOn}
-use Rattle.gds_header.specs.Fields.{fields_of, file_length_of, image_length}
+use Rattle.host_model.proofs.FileLemmas.{length-written}
+use Rattle.gds_header.specs.Fields.{fields_of, file_length_of, image_length, place_of}
 use Rattle.gds_header.proofs.EndingLemmas.{fields_of-front}
 use Rattle.gds_header.specs.declared.header.Header.{Header}
 use Rattle.gds_images.specs.Group.{Image}
 use Rattle.gds_images.specs.Outcome.{IsAtRest, IsWhole}
 use Rattle.gds_epoch.specs.Epoch.{FindsEither, IsDone, IsImageOf, IsKept, IsReady, StaysPatched, database_of}
-use Rattle.gds_epoch.specs.Length.{KeepsFront}
+use Rattle.gds_epoch.specs.Length.{KeepsFront, with_zeros}
 use Rattle.gds_epoch.specs.State.{Finds, Rests}
 use Rattle.gds_epoch.specs.Waiting.{LiesWithin, WaitingUnit, patched}
 use Rattle.gds_epoch.proofs.ToldLemmas.{told_before, told_weaker}
@@ -23,7 +25,7 @@ use Rattle.gds_units.specs.Held.{AreInPlace, AreUnits, IsHeld, IsRecoverable, Is
 use Rattle.gds_units.specs.State.{file_with}
 use Rattle.gds_units.specs.Durable.{IsStored, Keeps, KeepsOrStores}
 use Rattle.gds_units.proofs.DurableLemmas.{image_is, keeps_either, keeps_resting, rests_found, rests_stores}
-use Rattle.gds_units.proofs.PatchedLemmas.{front_long, patched_alike, same_database}
+use Rattle.gds_units.proofs.PatchedLemmas.{front_long, patched-written, patched_alike, same_database}
 
 -- Units that lie within a length lie within a greater one.
 pub inside_more : (size n m : ℕ) (units : List WaitingUnit) → n ≤ m → All (LiesWithin size n) units
@@ -93,6 +95,36 @@ pub image_kept : (size : ℕ) (units : List WaitingUnit) (old new : Option Conte
 image_kept size units None new untold tells = ap (λ o. option_map database_of (file_with size units o)) (untold refl)
 image_kept size units (Some c) None untold tells = absurd tells
 image_kept size units (Some c) (Some d) untold tells = ap Some tells
+
+-- ---- Zeros behind the image.
+
+pub grown_reach : (from to : ℕ) (c d : Contents) → from ≤ length c.db → d ≡ with_zeros from to c → to ≤ length d.db
+grown_reach from to c d fits is =
+    omega (arith, ap (λ (x : Contents). length x.db) is, length-written from (replicate (to - from) 0) c.db,
+    length-replicate {A = ℕ} (to - from) 0, fits)
+
+-- They stand behind the units too.
+pub grown_file : (h : Header) (units : List WaitingUnit) (from to total : ℕ) (old new : Option Contents)
+    → from ≡ file_length_of h → to ≡ place_of h total
+    → All (LiesWithin h.block_size (file_length_of h)) units → ForSome old (λ c. from ≤ length c.db)
+    → TellsOn old new (λ c d. d ≡ with_zeros from to c)
+    → TellsOn (file_with h.block_size units old) (file_with h.block_size units new)
+    (λ a b. b ≡ written (file_length_of h) (replicate (place_of h total - file_length_of h) 0) a)
+grown_file h units from to total None new is_from is_to inside fits tells = tt
+grown_file h units from to total (Some c) None is_from is_to inside fits tells = absurd tells
+grown_file h units from to total (Some c) (Some d) is_from is_to inside fits tells =
+    ap (λ (x : Contents). patched h.block_size units x.db) tells
+    ∙ patched-written h.block_size (file_length_of h) from units (replicate (to - from) 0) c.db inside
+    (omega (arith, is_from)) (fits c refl)
+    ∙ (λ i. written (is_from i) (replicate (is_to i - is_from i) 0) (patched h.block_size units c.db))
+
+-- two that are told stand in the relation
+pub tells_both : (old new : Option Contents) (R : Contents → Contents → Type 0) (c d : Contents) → old ≡ Some c
+    → new ≡ Some d → TellsOn old new R → R c d
+tells_both None new R c d is_old is_new tells = absurd (let no : None ≡ Some c = is_old in cc)
+tells_both (Some x) None R c d is_old is_new tells = absurd tells
+tells_both (Some x) (Some y) R c d is_old is_new tells =
+    let first : x ≡ c = cc in let second : y ≡ d = cc in rw second at (rw first at tells)
 
 module _ {H : Type 0} {told : H → Option Contents} {moment : H → ℕ} {left_since : H → ℕ → Contents → Type 0} where
   -- The database at rest is what the host holds of it.

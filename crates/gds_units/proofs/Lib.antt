@@ -1,6 +1,8 @@
 mod PatchedLemmas
 mod HeldLemmas
 mod DurableLemmas
-mod PlanLemmas
+mod SayingLemmas
+mod ReadingLemmas
 mod KeepingLemmas
 mod DropLemmas
+mod PlanLemmas

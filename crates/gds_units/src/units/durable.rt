@@ -1,10 +1,11 @@
-ghost use Rattle.std.specs.Prelude.{◌≡◌, ◌*◌, ◌+◌, ◌-◌, ◌<◌, ◌≤◌, false, None, length, replicate, take, OnErr, OnOk};
+ghost use Rattle.std.specs.Prelude.{◌≡◌, ◌*◌, ◌+◌, ◌-◌, ◌^◌, ◌<◌, ◌≤◌, false, None, length, replicate, take, OnErr, OnOk};
 ghost use Rattle.std.specs.Option.{ForSome};
 ghost use Rattle.host_model.specs.Disk.{written};
 ghost use Rattle.host_model.specs.Failures.{NeverFell, Rose};
 ghost use Rattle.host_model.specs.Files.{Says};
 ghost use Rattle.host_model.specs.Told.{TellsOn};
 ghost use Rattle.gds_header.specs.Fields.{file_length_of, place_of};
+ghost use Rattle.gds_header.specs.Kinds.{IsWithinLimits};
 ghost use Rattle.gds_units.specs.Durable.{IsStored, Keeps, KeepsOrStores, KeepsSaying, KeptAllOrStored};
 ghost use Rattle.gds_units.specs.Ending.{EndsWriting};
 ghost use Rattle.gds_units.specs.State.{WhereTold, image_of};
@@ -12,6 +13,7 @@ ghost use Rattle.gds_units.specs.State.{WhereTold, image_of};
 use super::Units;
 use crate::error::{SayFailed, UnitError};
 use gds_epoch::{grow_file, shorten_file, write_epoch};
+use gds_header::{HEADER_LENGTH, Header};
 use host_model::Host;
 
 impl<H: Host> Units<H> {
@@ -22,6 +24,7 @@ impl<H: Host> Units<H> {
         ensures same { self.new ≡ record self.old {
             host = self.new.host; epoch = self.new.epoch; changed = self.new.changed; stopped = self.new.stopped } }
         ensures ok { OnOk result ((self.new.changed ≡ 0) × (self.new.epoch ≡ file_length_of self.old.header)) }
+        ensures err { OnErr result ((self.new.changed ≡ self.old.changed) × (self.new.epoch ≡ self.old.epoch)) }
         ensures stored { OnOk result (WhereTold H.told self.old
             (λ c image. IsStored H.moment H.left_since image c.said self.new.host)) }
         ensures any_moment { WhereTold H.told self.old
@@ -103,7 +106,7 @@ impl<H: Host> Units<H> {
             return Err(UnitError::Stopped);
         }
         let from = self.header.file_length();
-        let to = from + u64::from(total - self.header.total) * u64::from(self.header.block_size);
+        let to = length_with(&self.header, total);
         match grow_file(&mut self.host, self.zeros.as_slice(), from, to) {
             Ok(()) => {
                 self.extent = to;
@@ -157,4 +160,14 @@ impl<H: Host> Units<H> {
     {
         Ok(self.host.say(bytes)?)
     }
+}
+
+/// How many bytes a file with this header has where it has so many blocks.
+fn length_with(header: &Header, total: u32) -> u64
+    requires limits { IsWithinLimits header.now }
+    requires limit { total ≤ 8388608 }
+    ensures length { result ≡ place_of header.now total }
+    ensures short { result < 2 ^ 63 }
+{
+    HEADER_LENGTH as u64 + u64::from(total) * u64::from(header.block_size)
 }

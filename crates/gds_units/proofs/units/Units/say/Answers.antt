@@ -1,27 +1,41 @@
-use Rattle.std.proofs.Common.{rules, ◌≡◌, ◌*◌, ◌+◌, ◌-◌, ◌<◌, ◌≤◌, false, None, length, replicate, take, OnErr, OnOk, ℕ, ◌/◌, ◌%◌, Bool, true, nat_eq, nat_lt, List, [], ◌∷◌, ◌++◌, slice_index_or, slice_set, bit_and, bit_or, Fits, w8, w32, w64, Bor, MutBor}
-use Rattle.std.specs.Option.{ForSome}
-use Rattle.host_model.specs.Disk.{written}
-use Rattle.host_model.specs.Failures.{NeverFell, Rose}
-use Rattle.host_model.specs.Files.{Says}
-use Rattle.host_model.specs.Told.{TellsOn}
-use Rattle.gds_header.specs.Fields.{file_length_of, place_of}
-use Rattle.gds_units.specs.Durable.{IsStored, Keeps, KeepsOrStores, KeepsSaying, KeptAllOrStored}
-use Rattle.gds_units.specs.Ending.{EndsWriting}
-use Rattle.gds_units.specs.State.{WhereTold, image_of}
+use Rattle.std.proofs.Common.{◌≡◌, subst}
+use Rattle.host_model.proofs.MomentLemmas.{by_saying}
+use Rattle.gds_units.specs.Durable.{KeepsSaying}
+use Rattle.gds_units.specs.State.{UnitsState, WhereTold}
+use Rattle.gds_units.proofs.DurableLemmas.{keeps_saying}
+use Rattle.gds_units.proofs.SayingLemmas.{after_saying}
 use Rattle.gds_units.proofs.units.Units.say.Goals as goal
 
--- src/units/durable.rt:160:12
 pub invariant_of-self : goal.invariant_of-self
-invariant_of-self g c = ?
+invariant_of-self g c =
+    let u = c.self.inside in
+    after_saying g.met.H.Host.said_stays u.host c.say.new.self u.header u.waiting.units u.before u.epoch_length u.extent
+    u.is_stopped c.self.invariant c.args.bytes.now c.say.result c.say.ensures.untold c.say.ensures.said
+    c.say.ensures.crash
 
--- src/units/durable.rt:160:12
 pub returns-in_err-say-clause-any_moment : goal.returns-in_err-say-clause-any_moment
-returns-in_err-say-clause-any_moment g c = ?
+returns-in_err-say-clause-any_moment g c =
+    let h = g.H.Host in
+    let u = c.self.inside in
+    subst (λ (s : UnitsState g.row.H.Denot). WhereTold h.told s
+    (λ x image. KeepsSaying h.moment h.left_since c.args.bytes.now s.host c.say.new.self)) c.self.view_is
+    (λ x tells image is. keeps_saying h.moment h.left_since c.args.bytes.now u.host c.say.new.self
+    (c.self.invariant.found x tells)
+    (by_saying h.moment h.left_since h.failures c.args.bytes.now u.host c.say.new.self c.say.ensures.called))
 
--- src/units/durable.rt:151:5
 pub invariant_of-self-2 : goal.invariant_of-self-2
-invariant_of-self-2 g c = ?
+invariant_of-self-2 g c =
+    let u = c.self.inside in
+    after_saying g.met.H.Host.said_stays u.host c.say.new.self u.header u.waiting.units u.before u.epoch_length u.extent
+    u.is_stopped c.self.invariant c.args.bytes.now c.say.result c.say.ensures.untold c.say.ensures.said
+    c.say.ensures.crash
 
--- src/units/durable.rt:151:5
 pub returns-clause-any_moment : goal.returns-clause-any_moment
-returns-clause-any_moment g c = ?
+returns-clause-any_moment g c =
+    let h = g.H.Host in
+    let u = c.self.inside in
+    subst (λ (s : UnitsState g.row.H.Denot). WhereTold h.told s
+    (λ x image. KeepsSaying h.moment h.left_since c.args.bytes.now s.host c.say.new.self)) c.self.view_is
+    (λ x tells image is. keeps_saying h.moment h.left_since c.args.bytes.now u.host c.say.new.self
+    (c.self.invariant.found x tells)
+    (by_saying h.moment h.left_since h.failures c.args.bytes.now u.host c.say.new.self c.say.ensures.called))
