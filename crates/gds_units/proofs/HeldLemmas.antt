@@ -35,7 +35,7 @@ inside_more size n m units le inside =
     (λ w is. record { size = is.size; within = omega (arith, is.within, le) }) units inside
 
 -- a shorter front of files that begin alike
-front_less : (m n : ℕ) (a b : List ℕ) → m ≤ n → take n b ≡ take n a → take m b ≡ take m a
+pub front_less : (m n : ℕ) (a b : List ℕ) → m ≤ n → take n b ≡ take n a → take m b ≡ take m a
 front_less m n a b le same = sym (take-take m n b le) ∙ ap (take m) same ∙ take-take m n a le
 
 -- ---- A call that keeps the front of the database file, as far as the image goes.

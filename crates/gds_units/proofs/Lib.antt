@@ -6,3 +6,4 @@ mod ReadingLemmas
 mod KeepingLemmas
 mod DropLemmas
 mod PlanLemmas
+mod CarriedLemmas

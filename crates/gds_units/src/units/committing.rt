@@ -62,9 +62,7 @@ impl<H: Host> Units<H> {
             self.header.block_size,
             self.epoch_length,
         )?;
-        if header.total < self.header.total {
-            self.waiting.drop_above(header.total);
-        }
+        self.waiting.drop_above(header.total);
         self.waiting.put_all_reserved(plan.units);
         self.header = header;
         Ok(())
