@@ -5,7 +5,9 @@ use Rattle.std.specs.Prelude.{All, filter, if◌then◌else◌, nat_le, nat_lt}
 use Rattle.std.proofs.lemmas.List.{take-take}
 use Rattle.std.proofs.lemmas.List.Elements.{All-filter, All-head, All-tail, All-weaker}
 use Rattle.std.proofs.lemmas.List.Sums.{count_by-le-length, length-filter}
+use Rattle.std.specs.Option.{ForSome}
 use Rattle.host_model.specs.Files.{Contents}
+use Rattle.host_model.specs.Moments.{EachLeft, LeavesTheSame}
 use Rattle.host_model.specs.Told.{TellsOn}
 use Rattle.gds_header.specs.Fields.{fields_of, file_length_of, image_length}
 use Rattle.gds_header.specs.Kinds.{IsWithinLimits, ending_kind, unreadable}
@@ -20,11 +22,13 @@ use Rattle.gds_epoch.specs.Epoch.{IsKept, database_of}
 use Rattle.gds_epoch.specs.Waiting.{IsRising, LiesWithin, WaitingUnit, patched, with_plan, with_unit}
 use Rattle.gds_epoch.proofs.PatchLemmas.{All-with_unit, patched-with_plan}
 use Rattle.gds_epoch.proofs.UnitLemmas.{length-patched}
-use Rattle.gds_units.specs.Held.{AreInPlace, IsHeld}
-use Rattle.gds_units.specs.Keeping.{AddsTo, EndsAtBlock, HasSize}
+use Rattle.gds_units.specs.Held.{AreInPlace, AreUnits, IsHeld}
+use Rattle.gds_units.specs.Keeping.{AddsTo, AreOld, EndsAtBlock, HasSize}
+use Rattle.gds_units.specs.Durable.{AsBefore, Keeps}
 use Rattle.gds_units.specs.Plan.{IsCarriedOut, IsPlan, header_after}
 use Rattle.gds_units.specs.State.{file_with}
-use Rattle.gds_units.proofs.DropLemmas.{up_to, up_to_all, up_to_front, up_to_inside, up_to_total, within_total}
+use Rattle.gds_units.proofs.DropLemmas.{up_to, up_to_front, up_to_inside, up_to_same, within_total}
+use Rattle.gds_units.proofs.DurableLemmas.{found_before, keeps_same}
 use Rattle.gds_units.proofs.HeldLemmas.{front_less, inside_more}
 use Rattle.gds_units.proofs.KeepingLemmas.{all_kept_more}
 use Rattle.gds_units.proofs.PatchedLemmas.{patched_alike, same_fields}
@@ -80,6 +84,16 @@ readable_front : (file : List ℕ) → IsWhole (database_of file) → unreadable
 readable_front file whole =
     ap unreadable (sym (take-take 8192 (image_length file) file (omega arith))) ∙ front_readable (database_of file) whole
 
+-- Where no unit waits then, none did, and the plan had none.
+none_carried : (h : Header) (plan units : List WaitingUnit) (epoch : ℕ) → 0 < h.block_size
+    → All (LiesWithin h.block_size (file_length_of h)) units → (units ≡ [] → epoch ≡ file_length_of h)
+    → with_plan (up_to (header_after h plan).total units) plan ≡ [] → epoch ≡ file_length_of (header_after h plan)
+none_carried h [] units epoch some inside none empty =
+    none (sym (up_to_same h.block_size h.total h.total (file_length_of h) units refl some (omega arith) inside) ∙ empty)
+none_carried h (x ∷ plan) units epoch some inside none empty =
+    let left = up_to (header_after h (x ∷ plan)).total units in
+    absurd (omega (arith, ap length empty, some-with_plan (with_unit left x) plan (length-with_unit left x).0))
+
 -- ---- A plan that is carried out among the units that wait up to its total.
 
 module _ (h : Header) (extent : ℕ) (plan units : List WaitingUnit) (is : IsPlan h extent plan)
@@ -112,11 +126,7 @@ module _ (h : Header) (extent : ℕ) (plan units : List WaitingUnit) (is : IsPla
   -- Where the total is no less than before, all units stay.
   left_all : 0 < h.block_size → h.total ≤ (header_after h plan).total → left ≡ units
   left_all some le =
-      up_to_all (header_after h plan).total units
-      (All-weaker (LiesWithin h.block_size (file_length_of h))
-      (λ (w : WaitingUnit). w.unit ≤ (header_after h plan).total)
-      (λ w lies. omega (arith, le, up_to_total h.block_size h.total w.unit some (omega (arith, lies.size, lies.within))))
-      units inside)
+      up_to_same h.block_size h.total (header_after h plan).total (file_length_of h) units refl some le inside
 
   -- no more units wait than before and the plan has
   pub length-carried : length carried ≤ length units + length plan
@@ -134,9 +144,8 @@ module _ (h : Header) (extent : ℕ) (plan units : List WaitingUnit) (is : IsPla
         (All-filter (λ (w : WaitingUnit). nat_le w.unit (header_after h plan).total) (IsKept h.block_size epoch images) units
         (all_kept_more h.block_size epoch before images adds units places.kept))
 
-    places_after : (carried ≡ [] → epoch ≡ file_length_of (header_after h plan))
-        → AreInPlace (header_after h plan) epoch extent images carried
-    places_after none = record {
+    pub places_after : AreInPlace (header_after h plan) epoch extent images carried
+    places_after = record {
       limits = limits_after h plan places.limits is.readable;
       epoch = places.epoch;
       blocks = subst (λ size. EndsAtBlock size epoch) (sym is.block_size) places.blocks;
@@ -145,7 +154,7 @@ module _ (h : Header) (extent : ℕ) (plan units : List WaitingUnit) (is : IsPla
       inside = subst (λ size. All (LiesWithin size (file_length_of (header_after h plan))) carried) (sym is.block_size)
           carried_inside;
       kept = subst (λ size. All (IsKept size epoch images) carried) (sym is.block_size) carried_kept;
-      none = none;
+      none = none_carried h plan units epoch (omega (arith, places.limits.block_from)) inside places.none;
     }
 
   -- ---- The file.
@@ -236,3 +245,91 @@ module _ (h : Header) (extent : ℕ) (plan units : List WaitingUnit) (is : IsPla
     fields = ap (λ size. fields_of (patched size carried c.db)) is.block_size
         ∙ fields_carried now rising c.db held.long held.fields;
   }
+
+-- ---- All that is known of units then.
+
+-- what is told of the file
+pub told_carried : (h next : Header) (plan units now : List WaitingUnit) (told later : Option Contents) → later ≡ told
+    → ((c : Contents) → told ≡ Some c
+    → IsCarriedOut h plan (patched h.block_size units c.db) (patched next.block_size now c.db))
+    → TellsOn (file_with h.block_size units told) (file_with next.block_size now later) (IsCarriedOut h plan)
+told_carried h next plan units now None later same out = tt
+told_carried h next plan units now (Some c) later same out =
+    subst (λ (o : Option Contents).
+    TellsOn (file_with h.block_size units (Some c)) (file_with next.block_size now o) (IsCarriedOut h plan))
+    (sym same) (out c refl)
+
+-- The units that wait now, from what each call made of them.
+module _ (h next : Header) (plan units reserved dropped now : List WaitingUnit) (is_next : next ≡ header_after h plan)
+    (same : reserved ≡ units) (drops : dropped ≡ up_to next.total reserved) (puts : now ≡ with_plan dropped plan) where
+  pub dropped_is : dropped ≡ up_to (header_after h plan).total units
+  dropped_is = drops ∙ ap (up_to next.total) same ∙ ap (λ (g : Header). up_to g.total units) is_next
+
+  pub now_is : now ≡ with_plan (up_to (header_after h plan).total units) plan
+  now_is = puts ∙ ap (λ us. with_plan us plan) dropped_is
+
+  pub length-now : (extent : ℕ) → IsPlan h extent plan → All (LiesWithin h.block_size (file_length_of h)) units
+      → length now ≤ length units + length plan
+  length-now extent is inside = omega (arith, ap length now_is, length-carried h extent plan units is inside)
+
+module _ {H : Type 0} {told : H → Option Contents} {moment : H → ℕ} {left_since : H → ℕ → Contents → Type 0}
+    (old new : H) (h : Header) (units : List WaitingUnit) (before : List Image) (epoch extent : ℕ) (stopped : Bool)
+    (are : AreUnits told moment left_since old h units before epoch extent stopped)
+    (tells : told new ≡ told old) (same : LeavesTheSame moment left_since old new) where
+  -- after reading alone
+  pub units_read : AreUnits told moment left_since new h units before epoch extent stopped
+  units_read = record {
+    places = are.places;
+    held = λ c is. are.held c (sym tells ∙ is);
+    found = λ c is d left. are.found c (sym tells ∙ is) d (same.stays d left);
+    resting = λ going c is.
+        let resting = are.resting going c (sym tells ∙ is) in
+        record { each = λ d left. resting.each d (same.stays d left); old = resting.old };
+  }
+
+  -- Reading leaves what was found before.
+  pub read_keeps : (c : Contents) → told old ≡ Some c → Keeps moment left_since old new
+  read_keeps c is = keeps_same moment left_since old new same (are.found c is)
+
+  pub read_as_before : (c : Contents) → told old ≡ Some c → EachLeft moment left_since new (AsBefore moment left_since old)
+  read_as_before c is d left =
+      let was = same.stays d left in found_before moment left_since old d (are.found c is d was) was
+
+  -- after a plan
+  module _ (plan : List WaitingUnit) (is : IsPlan h extent plan) (next : Header) (reserved dropped now : List WaitingUnit)
+      (is_next : next ≡ header_after h plan) (unchanged : reserved ≡ units) (drops : dropped ≡ up_to next.total reserved)
+      (rising : IsRising dropped) (puts : now ≡ with_plan dropped plan) where
+    rising_left : IsRising (up_to (header_after h plan).total units)
+    rising_left = subst IsRising (dropped_is h next plan units reserved dropped now is_next unchanged drops puts) rising
+
+    pub units_carried : (images : List Image) → AddsTo before images → All (IsKept h.block_size epoch images) plan
+        → ForSome (told old) (AreOld epoch images)
+        → AreUnits told moment left_since new next now images epoch extent stopped
+    units_carried images adds kept olds =
+        let all = with_plan (up_to (header_after h plan).total units) plan in
+        let after : AreUnits told moment left_since new (header_after h plan) all images epoch extent stopped =
+        record {
+          places = places_after h extent plan units is are.places.inside epoch before images are.places adds kept;
+          held = λ c known.
+              held_after h extent plan units is are.places.inside are.places.now rising_left c
+              (are.held c (sym tells ∙ known));
+          found = units_read.found;
+          resting = λ going c known. record {
+            each = (units_read.resting going c known).each;
+            old = (olds c (sym tells ∙ known)).old;
+          };
+        } in
+        subst (λ (g : Header). AreUnits told moment left_since new g now images epoch extent stopped) (sym is_next)
+        (subst (λ us. AreUnits told moment left_since new (header_after h plan) us images epoch extent stopped)
+        (sym (now_is h next plan units reserved dropped now is_next unchanged drops puts)) after)
+
+    pub file_carried_out : TellsOn (file_with h.block_size units (told old)) (file_with next.block_size now (told new))
+        (IsCarriedOut h plan)
+    file_carried_out = told_carried h next plan units now (told old) (told new) tells (λ c known.
+        let out = is_carried_out h extent plan units is are.places.inside are.places.now rising_left c.db
+        (are.held c known).long (omega (arith, are.places.limits.block_from)) in
+        subst (λ (g : Header). IsCarriedOut h plan (patched h.block_size units c.db) (patched g.block_size now c.db))
+        (sym is_next)
+        (subst (λ us. IsCarriedOut h plan (patched h.block_size units c.db)
+        (patched (header_after h plan).block_size us c.db))
+        (sym (now_is h next plan units reserved dropped now is_next unchanged drops puts)) out))

@@ -35,7 +35,7 @@ behind_total size total unit less =
     let rows = mul-le total size (unit - 1) size (omega (arith, less)) (omega arith) in
     rw more (omega (arith, rows))
 
-pub up_to_total : (size total unit : ℕ) → 0 < size → place_of size unit + size_of size unit ≤ 8192 + total * size
+up_to_total : (size total unit : ℕ) → 0 < size → place_of size unit + size_of size unit ≤ 8192 + total * size
     → unit ≤ total
 up_to_total size total unit some fits = ⊎_elim
     (λ (above : total < unit).
@@ -44,7 +44,7 @@ up_to_total size total unit some fits = ⊎_elim
 
 -- ---- The units up to a last one.
 
-pub up_to_all : (last : ℕ) (units : List WaitingUnit) → All (λ (w : WaitingUnit). w.unit ≤ last) units
+up_to_all : (last : ℕ) (units : List WaitingUnit) → All (λ (w : WaitingUnit). w.unit ≤ last) units
     → up_to last units ≡ units
 up_to_all last [] below = refl
 up_to_all last (x ∷ units) below =
@@ -52,6 +52,15 @@ up_to_all last (x ∷ units) below =
     let passes : nat_le x.unit last ≡ true = le-leb x.unit last (All-head P x units below) in
     ap (λ t. cond t (x ∷ up_to last units) (up_to last units)) passes
     ∙ ap (λ us. x ∷ us) (up_to_all last units (All-tail P x units below))
+
+-- Those of a database with no greater total all stay.
+pub up_to_same : (size total last n : ℕ) (units : List WaitingUnit) → n ≡ 8192 + total * size → 0 < size → total ≤ last
+    → All (LiesWithin size n) units → up_to last units ≡ units
+up_to_same size total last n units is_n some le inside =
+    up_to_all last units
+    (All-weaker (LiesWithin size n) (λ (w : WaitingUnit). w.unit ≤ last)
+    (λ w lies. omega (arith, le, up_to_total size total w.unit some (omega (arith, lies.size, lies.within, is_n))))
+    units inside)
 
 pub up_to_inside : (size last n : ℕ) (units : List WaitingUnit) → n ≡ 8192 + last * size → All (HasSize size) units
     → All (LiesWithin size n) (up_to last units)
