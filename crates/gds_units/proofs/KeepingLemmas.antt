@@ -14,7 +14,7 @@ use Rattle.host_model.specs.Files.{Contents}
 use Rattle.gds_images.specs.Group.{Image}
 use Rattle.gds_epoch.specs.Epoch.{IsImageAt, IsImageOf, IsKept}
 use Rattle.gds_epoch.specs.Waiting.{WaitingUnit, place_of, size_of, waiting_bytes}
-use Rattle.gds_units.specs.Keeping.{AddsImage, AddsTo, AreOld, EndsAtBlock, HasSize}
+use Rattle.gds_units.specs.Keeping.{AddsImage, AddsTo, AreKept, AreOld, EndsAtBlock, HasSize}
 
 -- ---- Images that come behind others.
 
@@ -49,6 +49,16 @@ pub all_kept_more : (size epoch : ℕ) (old new : List Image) → AddsTo old new
     → All (IsKept size epoch old) units → All (IsKept size epoch new) units
 all_kept_more size epoch old new adds units =
     All-weaker (IsKept size epoch old) (IsKept size epoch new) (kept_more size epoch old new adds) units
+
+pub are_kept_more : (size epoch : ℕ) (old new : List Image) → AddsTo old new → (units : List WaitingUnit)
+    → AreKept size epoch old units → AreKept size epoch new units
+are_kept_more size epoch old new adds units are = record {
+  some = are.some;
+  short = are.short;
+  blocks = are.blocks;
+  sizes = are.sizes;
+  kept = all_kept_more size epoch old new adds units are.kept;
+}
 
 -- ---- One image more.
 
@@ -125,7 +135,7 @@ size_to size unit short = by_number (unit == 0)
     by_number false = short
 
 -- One that waits is kept, with whatever bytes it waits.
-pub waits_kept : (size epoch : ℕ) (images : List Image) (units : List WaitingUnit) (w : WaitingUnit) (bytes : List ℕ)
+waits_kept : (size epoch : ℕ) (images : List Image) (units : List WaitingUnit) (w : WaitingUnit) (bytes : List ℕ)
     → All (HasSize size) units → All (IsKept size epoch images) units → HasSize size w
     → waiting_bytes units w.unit ≡ Some bytes → IsKept size epoch images w
 waits_kept size epoch images [] w bytes sizes kept has waits = absurd (let no : None ≡ Some bytes = waits in cc)
@@ -154,11 +164,11 @@ waits_kept size epoch images (x ∷ units) w bytes sizes kept has waits =
 
 -- So it is with one that is found among those that wait.
 pub found_kept : (size epoch : ℕ) (images : List Image) (units : List WaitingUnit) (w : WaitingUnit)
-    (found : Option (Bor (List ℕ))) → All (HasSize size) units → All (IsKept size epoch images) units → HasSize size w
-    → true ≡ is_some found → option_copied found ≡ waiting_bytes units w.unit → IsKept size epoch images w
-found_kept size epoch images units w None sizes kept has some same = absurd (true≢false some)
-found_kept size epoch images units w (Some bytes) sizes kept has some same =
-    waits_kept size epoch images units w bytes.now sizes kept has (sym same)
+    (found : Option (Bor (List ℕ))) → AreKept size epoch images units → HasSize size w → true ≡ is_some found
+    → option_copied found ≡ waiting_bytes units w.unit → IsKept size epoch images w
+found_kept size epoch images units w None are has some same = absurd (true≢false some)
+found_kept size epoch images units w (Some bytes) are has some same =
+    waits_kept size epoch images units w bytes.now are.sizes are.kept has (sym same)
 
 -- ---- What a call that may add an image leaves, however it ends.
 

@@ -3,7 +3,7 @@ use Rattle.std.specs.Prelude.{◌≡◌, ℕ, ◌+◌, ◌*◌, ◌<◌, ◌≤�
 use Rattle.std.specs.Option.{ForSome}
 use Rattle.host_model.specs.Files.{Contents}
 use Rattle.gds_images.specs.Group.{Image}
-use Rattle.gds_epoch.specs.Epoch.{IsImageAt, IsImageOf}
+use Rattle.gds_epoch.specs.Epoch.{IsImageAt, IsImageOf, IsKept}
 use Rattle.gds_epoch.specs.Waiting.{WaitingUnit, size_of}
 
 -- The database of the last epoch ends where a block does.
@@ -19,6 +19,14 @@ HasSize block_size w = length w.bytes ≡ size_of block_size w.unit
 pub record AreOld (epoch_length : ℕ) (images : List Image) (c : Contents) : Type 0 where
   pub long : epoch_length ≤ length c.db
   pub old : All (IsImageOf (take epoch_length c.db)) images
+
+-- Units wait whose old bytes are kept, within a database of the last epoch that ends where a block does.
+pub record AreKept (block_size epoch_length : ℕ) (images : List Image) (units : List WaitingUnit) : Type 0 where
+  pub some : 0 < block_size
+  pub short : block_size ≤ 65024
+  pub blocks : EndsAtBlock block_size epoch_length
+  pub sizes : All (HasSize block_size) units
+  pub kept : All (IsKept block_size epoch_length images) units
 
 -- Images came behind those that were there.
 pub record AddsTo (old new : List Image) : Type 0 where

@@ -9,7 +9,7 @@ ghost use Rattle.gds_epoch.specs.Epoch.{IsKept};
 ghost use Rattle.gds_epoch.specs.WaitingView.{unit_of, units_of};
 ghost use Rattle.gds_units.specs.Durable.{KeepsOrStores, KeptAllOrStored};
 ghost use Rattle.gds_units.specs.Ending.{EndsCommit, EndsReading};
-ghost use Rattle.gds_units.specs.Keeping.{AddsTo, AreOld, EndsAtBlock, HasSize};
+ghost use Rattle.gds_units.specs.Keeping.{AddsTo, AreKept, AreOld, HasSize};
 ghost use Rattle.gds_units.specs.Plan.{IsCarriedOut, IsPlan, header_after};
 ghost use Rattle.gds_units.specs.State.{WhereTold};
 
@@ -97,12 +97,8 @@ fn keep_plan<H: Host>(
     block_size: u32,
     epoch_length: u64,
 ) -> Result<(), UnitError>
-    requires block_from { 0 < block_size }
-    requires block_to { block_size ≤ 65024 }
-    requires blocks { EndsAtBlock block_size epoch_length }
+    requires kept { AreKept block_size epoch_length images.old waiting.now.units }
     requires sizes { All (HasSize block_size) (units_of plan.now) }
-    requires waiting_sizes { All (HasSize block_size) waiting.now.units }
-    requires waiting_kept { All (IsKept block_size epoch_length images.old) waiting.now.units }
     requires old { ForSome (H.told host.old) (AreOld epoch_length images.old) }
     ensures old { ForSome (H.told host.old) (AreOld epoch_length images.new) }
     ensures added { AddsTo images.old images.new }
@@ -130,12 +126,8 @@ fn keep_each<H: Host>(
     block_size: u32,
     epoch_length: u64,
 ) -> Result<(), UnitError>
-    requires block_from { 0 < block_size }
-    requires block_to { block_size ≤ 65024 }
-    requires blocks { EndsAtBlock block_size epoch_length }
+    requires kept { AreKept block_size epoch_length images.old waiting.now.units }
     requires sizes { All (HasSize block_size) (units_of plan.now) }
-    requires waiting_sizes { All (HasSize block_size) waiting.now.units }
-    requires waiting_kept { All (IsKept block_size epoch_length images.old) waiting.now.units }
     requires old { ForSome (H.told host.old) (AreOld epoch_length images.old) }
     ensures old { ForSome (H.told host.old) (AreOld epoch_length images.new) }
     ensures added { AddsTo images.old images.new }
@@ -160,12 +152,8 @@ fn keep_one<H: Host>(
     block_size: u32,
     epoch_length: u64,
 ) -> Result<(), UnitError>
-    requires block_from { 0 < block_size }
-    requires block_to { block_size ≤ 65024 }
-    requires blocks { EndsAtBlock block_size epoch_length }
+    requires kept { AreKept block_size epoch_length images.old waiting.now.units }
     requires size { HasSize block_size (unit_of unit.now) }
-    requires waiting_sizes { All (HasSize block_size) waiting.now.units }
-    requires waiting_kept { All (IsKept block_size epoch_length images.old) waiting.now.units }
     requires old { ForSome (H.told host.old) (AreOld epoch_length images.old) }
     ensures old { ForSome (H.told host.old) (AreOld epoch_length images.new) }
     ensures added { AddsTo images.old images.new }
