@@ -6,3 +6,7 @@ mod SayingLemmas
 mod UnitLemmas
 mod ReadingLemmas
 mod SourcingLemmas
+mod KeepingLemmas
+mod DropLemmas
+mod PlanLemmas
+mod CarriedLemmas

@@ -1,3 +1,4 @@
+mod committing;
 mod durable;
 mod opening;
 mod reading;
