@@ -5,3 +5,4 @@ mod DurableLemmas
 mod SayingLemmas
 mod ReadingLemmas
 mod SourcingLemmas
+mod CreatingLemmas

@@ -6,3 +6,4 @@ pub mod Reading
 pub mod Ending
 pub mod Opening
 pub mod Laws
+pub mod Creating

@@ -1,3 +1,4 @@
+mod creating;
 mod durable;
 mod opening;
 mod reading;
