@@ -20,7 +20,7 @@ use Rattle.gds_units.specs.Held.{IsRecoverable}
 use Rattle.gds_units.specs.Durable.{AsBefore, IsStored, Keeps, KeepsOrStores, KeepsSaying, KeptAllOrStored, Stores}
 use Rattle.gds_units.specs.State.{UnitsState, WhereTold, file_with, image_of}
 
-some_same : {A : Type 0} (a b : A) → Some a ≡ Some b → a ≡ b
+pub some_same : {A : Type 0} (a b : A) → Some a ≡ Some b → a ≡ b
 some_same a b is = cc
 
 pub when_ok_always : {T E P : Type 0} (result : Result T E) → P → OnOk result P

@@ -3,6 +3,7 @@ mod PatchedLemmas
 mod HeldLemmas
 mod DurableLemmas
 mod SayingLemmas
+mod UnitLemmas
 mod ReadingLemmas
 mod SourcingLemmas
 mod CreatingLemmas

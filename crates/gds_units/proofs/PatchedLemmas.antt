@@ -93,7 +93,7 @@ written-front at bytes front rest fits =
     ∙ sym (append_assoc (take at front ++ bytes) (drop (at + length bytes) front) rest)
 
 -- What is behind it stays.
-drop-written : (k at : ℕ) (bytes file : List ℕ) → at + length bytes ≤ k → at + length bytes ≤ length file
+pub drop-written : (k at : ℕ) (bytes file : List ℕ) → at + length bytes ≤ k → at + length bytes ≤ length file
     → drop k (written at bytes file) ≡ drop k file
 drop-written k at bytes file behind fits =
     drop-append-drop (at + length bytes) file (take at file ++ bytes) k behind
