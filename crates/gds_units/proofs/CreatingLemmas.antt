@@ -1,7 +1,6 @@
 -- What is known of a new database.
-use Rattle.std.proofs.Common.{◌≡◌, ◌≤◌, ℕ, List, take, Option, None, Some, refl, sym, ap, subst, ◌∙◌, arith}
+use Rattle.std.proofs.Common.{◌≡◌, ◌≤◌, ℕ, take, Option, None, Some, refl, sym, ap, subst, ◌∙◌}
 use Rattle.std.specs.Option.{ForSome}
-use Rattle.host_model.specs.Failures.{Failures}
 use Rattle.host_model.specs.Files.{Contents}
 use Rattle.host_model.specs.Moments.{EachLeft, HasCome}
 use Rattle.host_model.specs.Told.{TellsOn}
@@ -9,19 +8,14 @@ use Rattle.host_model.proofs.MomentLemmas.{LeavesTheSame-refl}
 use Rattle.gds_header.specs.Fields.{fields_of}
 use Rattle.gds_header.specs.Kinds.{IsWithinLimits}
 use Rattle.gds_header.specs.declared.header.Header.{Header}
-use Rattle.gds_images.specs.Chain.{label}
-use Rattle.gds_images.specs.Outcome.{IsClosed, IsWhole}
-use Rattle.gds_new.specs.NewDatabase.{new_database, new_header}
+use Rattle.gds_images.specs.Outcome.{IsWhole}
+use Rattle.gds_new.specs.NewDatabase.{new_header}
 use Rattle.gds_new.proofs.HeaderLemmas.{new_limits}
 use Rattle.gds_new.proofs.ReadLemmas.{fields_read, nothing_ends, whole_read}
-use Rattle.gds_create.specs.Errors.{HasCause}
-use Rattle.gds_create.specs.Newborn.{IsEmpty, IsMade, IsNewborn, closed_images}
-use Rattle.gds_create.specs.declared.error.CreateError.{CreateError}
-use Rattle.gds_create.specs.declared.error.CreateError.TheVariants.{Memory, NotEmpty, ReadFault, WriteFault}
+use Rattle.gds_create.specs.Newborn.{IsEmpty, IsMade, IsNewborn}
 use Rattle.gds_create.proofs.MakingLemmas.{unwritten_come}
 use Rattle.gds_epoch.proofs.ToldLemmas.{told_before}
 use Rattle.gds_recovery.specs.Found.{IsUnwritten}
-use Rattle.gds_units.specs.Creating.{HasCreatingCause, made_error}
 use Rattle.gds_units.specs.Opening.{HoldsWhole}
 
 -- The files of a new database are whole.

@@ -1,6 +1,5 @@
-use Rattle.std.proofs.Common.{◌≡◌, ◌<◌, length, IfSome, subst, sym}
+use Rattle.std.proofs.Common.{◌≡◌, ◌<◌, length}
 use Rattle.std.specs.Prelude.{All}
-use Rattle.gds_header.specs.Fields.{file_length_of}
 use Rattle.gds_units.proofs.SourcingLemmas.{after_reading, image_bytes, image_long, of_state}
 use Rattle.gds_units.proofs.units.sourcing.UnitsUnitSource.length.Goals as goal
 
