@@ -1,10 +1,9 @@
 -- What a crash leaves of units at rest, and of units on which nothing is written.
-use Rattle.std.proofs.Common.{◌≡◌, ◌⊎◌, ℕ, ◌≤◌, List, length, take, Option, None, Some, refl, sym, ap, subst, ◌∙◌, inl, inr, ⊎_elim}
-use Rattle.std.specs.Option.{ForSome}
+use Rattle.std.proofs.Common.{◌≡◌, ◌⊎◌, ℕ, ◌≤◌, List, Option, None, Some, refl, sym, ap, subst, ◌∙◌, inl, inr, ⊎_elim}
 use Rattle.std.specs.Prelude.{OnOk, Result, Ok, Err, option_map}
 use Rattle.host_model.specs.Disk.{SaysSome, during}
 use Rattle.host_model.specs.Files.{Contents}
-use Rattle.host_model.specs.Moments.{EachLeft, HasCome, LeavesBy, LeavesOnly, LeavesTheSame}
+use Rattle.host_model.specs.Moments.{EachLeft, HasCome, LeavesBy, LeavesTheSame}
 use Rattle.host_model.proofs.MomentLemmas.{no_call, same_only, then_more, weaker}
 use Rattle.host_model.proofs.FrameLemmas.{TellsOn-some}
 use Rattle.host_model.specs.Told.{TellsOn}
@@ -12,7 +11,7 @@ use Rattle.gds_images.specs.Outcome.{RecoversAsBefore, RecoversTo}
 use Rattle.gds_images.specs.Recovered.{recovered}
 use Rattle.gds_images.specs.Same.{IsSame}
 use Rattle.gds_images.proofs.SameLemmas.{same_equivalence}
-use Rattle.gds_epoch.specs.Epoch.{FindsEither, database_of}
+use Rattle.gds_epoch.specs.Epoch.{database_of}
 use Rattle.gds_epoch.specs.State.{Finds, Rests}
 use Rattle.gds_epoch.proofs.StateLemmas.{rest_finds}
 use Rattle.gds_epoch.specs.Waiting.{WaitingUnit, patched}

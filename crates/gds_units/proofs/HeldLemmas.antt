@@ -1,12 +1,12 @@
 -- What is known of units after a call on their host.
-use Rattle.std.proofs.Common.{◌≡◌, ◌⊎◌, ℕ, ◌+◌, ◌-◌, ◌^◌, ◌<◌, ◌≤◌, Bool, true, false, List, [], length, take, Option, None, Some}
+use Rattle.std.proofs.Common.{◌≡◌, ◌⊎◌, ℕ, ◌-◌, ◌^◌, ◌<◌, ◌≤◌, Bool, true, false, List, [], length, take, Option, None, Some}
 use Rattle.std.proofs.Common.{refl, sym, ap, subst, ◌∙◌, arith, length-take, replicate, inl, inr, true≢false, ◌∷◌}
 use Rattle.std.specs.Option.{ForSome}
 use Rattle.std.specs.Prelude.{All, option_map}
 use Rattle.std.proofs.lemmas.List.{length-replicate, take-take}
 use Rattle.std.proofs.lemmas.List.Elements.{All-nil, All-weaker}
 use Rattle.host_model.specs.Files.{Contents}
-use Rattle.host_model.specs.Moments.{EachLeft, HasCome, LeavesTheSame}
+use Rattle.host_model.specs.Moments.{EachLeft, HasCome}
 use Rattle.host_model.specs.Disk.{written}
 use Rattle.host_model.specs.Told.{TellsOn}
 use Rattle.host_model.proofs.FileLemmas.{length-written}

@@ -10,3 +10,4 @@ mod KeepingLemmas
 mod DropLemmas
 mod PlanLemmas
 mod CarriedLemmas
+mod CreatingLemmas

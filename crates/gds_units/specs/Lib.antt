@@ -7,3 +7,4 @@ pub mod Ending
 pub mod Opening
 pub mod Laws
 pub mod Keeping
+pub mod Creating

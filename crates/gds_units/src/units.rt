@@ -1,4 +1,5 @@
 mod committing;
+mod creating;
 mod durable;
 mod opening;
 mod reading;

@@ -1,4 +1,4 @@
-use Rattle.std.proofs.Common.{◌≡◌, subst}
+use Rattle.std.proofs.Common.{subst}
 use Rattle.host_model.proofs.MomentLemmas.{by_saying}
 use Rattle.gds_units.specs.Durable.{KeepsSaying}
 use Rattle.gds_units.specs.State.{UnitsState, WhereTold}
