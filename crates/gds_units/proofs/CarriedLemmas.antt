@@ -221,13 +221,14 @@ module _ (h : Header) (extent : ℕ) (plan units : List WaitingUnit) (is : IsPla
         (omega (arith, ap file_length_of (fields_carried fields), carried_long, n_long))
 
     -- Carried out, as far as the header then says.
-    pub is_carried_out : 0 < h.block_size
+    pub is_carried_out : 0 < h.block_size → fields_of (patched h.block_size units db) ≡ h
         → IsCarriedOut h plan (patched h.block_size units db) (patched (header_after h plan).block_size carried db)
-    is_carried_out some =
+    is_carried_out some fields =
         subst (λ size. IsCarriedOut h plan (patched h.block_size units db) (patched size carried db)) (sym is.block_size)
         (record {
           len = ap length file_carried ∙ length-patched h.block_size plan (patched h.block_size left db) plan_in_base
               ∙ base_long ∙ sym old_long;
+          fields = fields_carried fields;
           image = ap (take (file_length_of (header_after h plan))) file_carried
               ∙ patched_alike h.block_size (file_length_of (header_after h plan)) plan (patched h.block_size left db)
               (patched h.block_size units db) plan_inside (omega (arith, n_long, base_long))
@@ -327,7 +328,7 @@ module _ {H : Type 0} {told : H → Option Contents} {moment : H → ℕ} {left_
         (IsCarriedOut h plan)
     file_carried_out = told_carried h next plan units now (told old) (told new) tells (λ c known.
         let out = is_carried_out h extent plan units is are.places.inside are.places.now rising_left c.db
-        (are.held c known).long (omega (arith, are.places.limits.block_from)) in
+        (are.held c known).long (omega (arith, are.places.limits.block_from)) (are.held c known).fields in
         subst (λ (g : Header). IsCarriedOut h plan (patched h.block_size units c.db) (patched g.block_size now c.db))
         (sym is_next)
         (subst (λ us. IsCarriedOut h plan (patched h.block_size units c.db)

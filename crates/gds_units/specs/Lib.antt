@@ -8,3 +8,4 @@ pub mod Opening
 pub mod Laws
 pub mod Keeping
 pub mod Creating
+pub mod Example
