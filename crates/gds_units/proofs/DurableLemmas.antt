@@ -147,13 +147,31 @@ module _ {H : Type 0} (moment : H → ℕ) (left_since : H → ℕ → Contents 
         said = kept.said ∙ earlier.said;
       }
 
-  stores_then : (image text : List ℕ) (left : Contents → Type 0) (c : Contents)
+  pub stores_then : (image text : List ℕ) (left : Contents → Type 0) (c : Contents)
       → ((e : Contents) → left e → Stores image text e) → RecoversAsBefore left c → Stores image text c
   stores_then image text left c each kept =
       let earlier = each kept.earlier kept.was_left in record {
         recovers = carried image kept.earlier c kept.found earlier.recovers kept.recovered_then kept.recovers;
         said = kept.said ∙ earlier.said;
       }
+
+  -- what was found before, or an image
+  pub either_then : (old : H) (image text : List ℕ) (left : Contents → Type 0) (c : Contents)
+      → ((e : Contents) → left e → AsBefore moment left_since old e ⊎ Stores image text e) → RecoversAsBefore left c
+      → AsBefore moment left_since old c ⊎ Stores image text c
+  either_then old image text left c each kept = ⊎_elim
+      (λ (earlier : AsBefore moment left_since old kept.earlier). inl (record {
+        earlier = earlier.earlier;
+        was_left = earlier.was_left;
+        found = earlier.found;
+        recovered_then = earlier.recovered_then;
+        recovers = carried earlier.found kept.earlier c kept.found earlier.recovers kept.recovered_then kept.recovers;
+        said = kept.said ∙ earlier.said;
+      }))
+      (λ (stored : Stores image text kept.earlier). inr (record {
+        recovers = carried image kept.earlier c kept.found stored.recovers kept.recovered_then kept.recovers;
+        said = kept.said ∙ stored.said;
+      })) (each kept.earlier kept.was_left)
 
   module _ (old mid new : H) (second : Keeps moment left_since mid new) where
     -- what each crash leaves now was left at the middle
@@ -173,21 +191,8 @@ module _ {H : Type 0} (moment : H → ℕ) (left_since : H → ℕ → Contents 
         let P : Contents → Type 0 = λ c. AsBefore moment left_since old c ⊎ Stores image text c in
         then_more moment left_since old mid new P first
         (weaker moment left_since mid new (AsBefore moment left_since mid) P
-        (λ c kept. let before = first.each kept.earlier
-        (longer mid (moment old) (moment mid) kept.earlier first.later kept.was_left) in
-        ⊎_elim
-        (λ (earlier : AsBefore moment left_since old kept.earlier). inl (record {
-          earlier = earlier.earlier;
-          was_left = earlier.was_left;
-          found = earlier.found;
-          recovered_then = earlier.recovered_then;
-          recovers = carried earlier.found kept.earlier c kept.found earlier.recovers kept.recovered_then kept.recovers;
-          said = kept.said ∙ earlier.said;
-        }))
-        (λ (stored : Stores image text kept.earlier). inr (record {
-          recovers = carried image kept.earlier c kept.found stored.recovers kept.recovered_then kept.recovers;
-          said = kept.said ∙ stored.said;
-        })) before) second)
+        (λ c kept. either_then old image text (left_since mid (moment mid)) c
+        (λ e left. first.each e (longer mid (moment old) (moment mid) e first.later left)) kept) second)
 
     pub stored_then : (image text : List ℕ) → IsStored moment left_since image text mid
         → IsStored moment left_since image text new

@@ -11,3 +11,4 @@ mod DropLemmas
 mod PlanLemmas
 mod CarriedLemmas
 mod CreatingLemmas
+mod ExampleLemmas
