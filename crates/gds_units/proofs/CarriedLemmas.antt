@@ -1,7 +1,8 @@
 -- Units once a plan is carried out.
-use Rattle.std.proofs.Common.{◌≡◌, ◌≢◌, ℕ, ◌+◌, ◌*◌, ◌<◌, ◌≤◌, ◌==◌, Bool, true, false, cond, ltb, List, [], ◌∷◌, length, take}
+use Rattle.std.proofs.Common.{◌≡◌, ℕ, ◌+◌, ◌*◌, ◌<◌, ◌≤◌, ◌==◌, Bool, true, false, cond, ltb, List, [], ◌∷◌}
+use Rattle.std.proofs.Common.{length, take}
 use Rattle.std.proofs.Common.{Option, None, Some, refl, sym, ap, subst, ◌∙◌, arith, lit≤, length-take}
-use Rattle.std.specs.Prelude.{All, filter, if◌then◌else◌, nat_le, nat_lt}
+use Rattle.std.specs.Prelude.{All, if◌then◌else◌, nat_le, nat_lt}
 use Rattle.std.proofs.lemmas.List.{take-take}
 use Rattle.std.proofs.lemmas.List.Elements.{All-filter, All-head, All-tail, All-weaker}
 use Rattle.std.proofs.lemmas.List.Sums.{count_by-le-length, length-filter}
@@ -10,7 +11,7 @@ use Rattle.host_model.specs.Files.{Contents}
 use Rattle.host_model.specs.Moments.{EachLeft, LeavesTheSame}
 use Rattle.host_model.specs.Told.{TellsOn}
 use Rattle.gds_header.specs.Fields.{fields_of, file_length_of, image_length}
-use Rattle.gds_header.specs.Kinds.{IsWithinLimits, ending_kind, unreadable}
+use Rattle.gds_header.specs.Kinds.{ending_kind, unreadable}
 use Rattle.gds_header.specs.declared.header.Header.{Header}
 use Rattle.gds_header.specs.declared.kind.HeaderKind.TheVariants.{ShortFile}
 use Rattle.gds_header.proofs.EndingLemmas.{ending_kind-readable, fields_of-front}
@@ -82,7 +83,8 @@ whole_front file fine long =
 
 readable_front : (file : List ℕ) → IsWhole (database_of file) → unreadable (take 8192 file) ≡ None
 readable_front file whole =
-    ap unreadable (sym (take-take 8192 (image_length file) file (omega arith))) ∙ front_readable (database_of file) whole
+    ap unreadable (sym (take-take 8192 (image_length file) file (omega arith)))
+    ∙ front_readable (database_of file) whole
 
 -- Where no unit waits then, none did, and the plan had none.
 none_carried : (h : Header) (plan units : List WaitingUnit) (epoch : ℕ) → 0 < h.block_size
@@ -108,7 +110,9 @@ module _ (h : Header) (extent : ℕ) (plan units : List WaitingUnit) (is : IsPla
   ends = ap (λ size. 8192 + (header_after h plan).total * size) is.block_size
 
   sizes : All (HasSize h.block_size) units
-  sizes = All-weaker (LiesWithin h.block_size (file_length_of h)) (HasSize h.block_size) (λ w lies. lies.size) units inside
+  sizes =
+      All-weaker (LiesWithin h.block_size (file_length_of h)) (HasSize h.block_size) (λ w lies. lies.size) units
+      inside
 
   plan_inside : All (LiesWithin h.block_size (file_length_of (header_after h plan))) plan
   plan_inside k d less =
@@ -131,8 +135,12 @@ module _ (h : Header) (extent : ℕ) (plan units : List WaitingUnit) (is : IsPla
   -- no more units wait than before and the plan has
   pub length-carried : length carried ≤ length units + length plan
   length-carried =
-      omega (arith, length-with_plan left plan, length-filter (λ (w : WaitingUnit). nat_le w.unit (header_after h plan).total) units,
-      count_by-le-length (λ (w : WaitingUnit). nat_le w.unit (header_after h plan).total) units)
+      omega (
+        arith,
+        length-with_plan left plan,
+        length-filter (λ (w : WaitingUnit). nat_le w.unit (header_after h plan).total) units,
+        count_by-le-length (λ (w : WaitingUnit). nat_le w.unit (header_after h plan).total) units,
+      )
 
   -- ---- Places.
 
@@ -141,7 +149,8 @@ module _ (h : Header) (extent : ℕ) (plan units : List WaitingUnit) (is : IsPla
     carried_kept : All (IsKept h.block_size epoch images) carried
     carried_kept =
         All-with_plan (IsKept h.block_size epoch images) left plan kept
-        (All-filter (λ (w : WaitingUnit). nat_le w.unit (header_after h plan).total) (IsKept h.block_size epoch images) units
+        (All-filter (λ (w : WaitingUnit). nat_le w.unit (header_after h plan).total)
+        (IsKept h.block_size epoch images) units
         (all_kept_more h.block_size epoch before images adds units places.kept))
 
     pub places_after : AreInPlace (header_after h plan) epoch extent images carried
@@ -190,8 +199,8 @@ module _ (h : Header) (extent : ℕ) (plan units : List WaitingUnit) (is : IsPla
     base_front : take (file_length_of (header_after h plan)) (patched h.block_size left db)
         ≡ take (file_length_of (header_after h plan)) (patched h.block_size units db)
     base_front =
-        up_to_front h.block_size (header_after h plan).total (file_length_of (header_after h plan)) units db db ends refl
-        n_long units_in_db refl
+        up_to_front h.block_size (header_after h plan).total (file_length_of (header_after h plan)) units db db ends
+        refl n_long units_in_db refl
 
     fields_carried : fields_of (patched h.block_size units db) ≡ h
         → fields_of (patched h.block_size carried db) ≡ header_after h plan
@@ -211,7 +220,8 @@ module _ (h : Header) (extent : ℕ) (plan units : List WaitingUnit) (is : IsPla
         ∙ readable_patched h.block_size plan (patched h.block_size left db) is.distinct plan_in_base
         (ap unreadable same ∙ readable_front (patched h.block_size units db) whole) is.readable
 
-    whole_carried : fields_of (patched h.block_size units db) ≡ h → IsWhole (database_of (patched h.block_size units db))
+    whole_carried : fields_of (patched h.block_size units db) ≡ h
+        → IsWhole (database_of (patched h.block_size units db))
         → IsWhole (database_of (patched h.block_size carried db))
     whole_carried fields whole =
         let carried_long : length (patched h.block_size carried db) ≡ length db =
@@ -292,14 +302,15 @@ module _ {H : Type 0} {told : H → Option Contents} {moment : H → ℕ} {left_
   pub read_keeps : (c : Contents) → told old ≡ Some c → Keeps moment left_since old new
   read_keeps c is = keeps_same moment left_since old new same (are.found c is)
 
-  pub read_as_before : (c : Contents) → told old ≡ Some c → EachLeft moment left_since new (AsBefore moment left_since old)
+  pub read_as_before : (c : Contents) → told old ≡ Some c
+      → EachLeft moment left_since new (AsBefore moment left_since old)
   read_as_before c is d left =
       let was = same.stays d left in found_before moment left_since old d (are.found c is d was) was
 
   -- after a plan
-  module _ (plan : List WaitingUnit) (is : IsPlan h extent plan) (next : Header) (reserved dropped now : List WaitingUnit)
-      (is_next : next ≡ header_after h plan) (unchanged : reserved ≡ units) (drops : dropped ≡ up_to next.total reserved)
-      (rising : IsRising dropped) (puts : now ≡ with_plan dropped plan) where
+  module _ (plan : List WaitingUnit) (is : IsPlan h extent plan) (next : Header)
+      (reserved dropped now : List WaitingUnit) (is_next : next ≡ header_after h plan) (unchanged : reserved ≡ units)
+      (drops : dropped ≡ up_to next.total reserved) (rising : IsRising dropped) (puts : now ≡ with_plan dropped plan) where
     rising_left : IsRising (up_to (header_after h plan).total units)
     rising_left = subst IsRising (dropped_is h next plan units reserved dropped now is_next unchanged drops puts) rising
 

@@ -1,10 +1,11 @@
 -- Units up to a last one, as where a file ends with it.
-use Rattle.std.proofs.Common.{◌≡◌, ℕ, ◌+◌, ◌-◌, ◌*◌, ◌<◌, ◌≤◌, ◌==◌, Bool, true, false, cond, List, [], ◌∷◌, ◌++◌, length}
-use Rattle.std.proofs.Common.{take, drop, refl, sym, ap, subst, ◌∙◌, ⊎_elim, arith, length-append, length-take}
+use Rattle.std.proofs.Common.{◌≡◌, ℕ, ◌+◌, ◌-◌, ◌*◌, ◌<◌, ◌≤◌, ◌==◌, Bool, true, false, cond, List, [], ◌∷◌, ◌++◌}
+use Rattle.std.proofs.Common.{length, take, drop, refl, sym, ap, subst, ◌∙◌, ⊎_elim, arith, length-append, length-take}
 use Rattle.std.specs.Prelude.{All, filter, nat_le}
 use Rattle.std.proofs.lemmas.Bool.{cases_lt, eqb-false, le-leb, leb-false, leb-true, ne_eqb}
 use Rattle.std.proofs.lemmas.List.{take-append-le, take-take}
-use Rattle.std.proofs.lemmas.List.Elements.{All-cons, All-filter, All-head, All-nil, All-tail, All-weaker, filter_passes}
+use Rattle.std.proofs.lemmas.List.Elements.{All-cons, All-filter, All-head, All-nil, All-tail, All-weaker}
+use Rattle.std.proofs.lemmas.List.Elements.{filter_passes}
 use Rattle.std.proofs.lemmas.Nat.{mul-le, row_fits}
 use Rattle.host_model.specs.Disk.{written}
 use Rattle.gds_images.proofs.WrittenLemmas.{length-written_within}
@@ -91,7 +92,8 @@ pub up_to_front : (size last n : ℕ) (units : List WaitingUnit) (a b : List ℕ
 up_to_front size last n [] a b is_n long within inside same = same
 up_to_front size last n (x ∷ units) a b is_n long within inside same =
     by_test (nat_le x.unit last) refl
-    (up_to_front size last n units (written (place_of size x.unit) x.bytes a) (written (place_of size x.unit) x.bytes b) is_n
+    (up_to_front size last n units (written (place_of size x.unit) x.bytes a)
+    (written (place_of size x.unit) x.bytes b) is_n
     (long_a ∙ long ∙ sym long_b) (omega (arith, within, long_a))
     (subst (λ m. All (LiesWithin size m) units) (sym long_a) others))
     (up_to_front size last n units a (written (place_of size x.unit) x.bytes b) is_n (long ∙ sym long_b) within others)

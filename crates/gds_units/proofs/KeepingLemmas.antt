@@ -1,6 +1,7 @@
 -- Images that keep the old bytes of units.
-use Rattle.std.proofs.Common.{◌≡◌, ◌⊎◌, ℕ, ◌+◌, ◌-◌, ◌*◌, ◌^◌, ◌<◌, ◌≤◌, ◌==◌, Bool, true, false, List, [], ◌∷◌, ◌++◌, length}
-use Rattle.std.proofs.Common.{take, drop, get_or, Option, None, Some, refl, sym, ap, subst, ◌∙◌, inl, inr, ⊎_elim, arith, length-take}
+use Rattle.std.proofs.Common.{◌≡◌, ℕ, ◌+◌, ◌-◌, ◌*◌, ◌^◌, ◌<◌, ◌≤◌, ◌==◌, Bool, true, false, List, [], ◌∷◌, ◌++◌}
+use Rattle.std.proofs.Common.{length, take, drop, get_or, Option, None, Some, refl, sym, ap, subst, ◌∙◌}
+use Rattle.std.proofs.Common.{inl, inr, ⊎_elim, arith, length-take}
 use Rattle.std.proofs.Common.{Bor, length-append, append_assoc, true≢false}
 use Rattle.std.specs.Prelude.{All, Any, Err, Ok, OnErr, OnOk, Result, if◌then◌else◌}
 use Rattle.std.specs.Option.{ForSome, is_some, option_copied}
@@ -67,8 +68,13 @@ pub kept_by_image : (told : Option Contents) (size epoch : ℕ) (w : WaitingUnit
 kept_by_image told size epoch w old new adds =
     let there : get_or new (length old) adds.image ≡ adds.image =
     ap (λ xs. get_or xs (length old) adds.image) adds.is ∙ get_or_push old adds.image adds.image (length old) refl in
-    inl (length old, adds.image,
-    omega (arith, ap length adds.is, length-append old (adds.image ∷ [])), there, adds.place)
+    inl (
+      length old,
+      adds.image,
+      omega (arith, ap length adds.is, length-append old (adds.image ∷ [])),
+      there,
+      adds.place,
+    )
 
 -- It has bytes of the last epoch's database.
 pub image_old : (told : Option Contents) (at n epoch : ℕ) (old new : List Image) → AddsImage told at n old new
@@ -180,7 +186,8 @@ module _ {T E : Type 0} (told : Option Contents) (at n : ℕ) (old new : List Im
 
   pub old_of : (result : Result T E) (epoch : ℕ) → OnOk result (AddsImage told at n old new) → OnErr result (new ≡ old)
       → 0 < n → n < 2 ^ 32 → at + n ≤ epoch → ForSome told (AreOld epoch old) → ForSome told (AreOld epoch new)
-  old_of (Ok x) epoch adds same some short within before = image_old told at n epoch old new adds some short within before
+  old_of (Ok x) epoch adds same some short within before =
+      image_old told at n epoch old new adds some short within before
   old_of (Err e) epoch adds same some short within before =
       subst (λ images. ForSome told (AreOld epoch images)) (sym same) before
 

@@ -65,6 +65,7 @@ module _ {H : Type 0} (told : H → Option Contents) (moment : H → ℕ) (left_
     places = record {
       limits = limits;
       epoch = omega arith;
+      blocks = record { blocks = h.total; ends = refl };
       now = omega arith;
       short = file_length-short h limits;
       inside = All-nil (LiesWithin h.block_size (file_length_of h));

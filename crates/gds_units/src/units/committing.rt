@@ -28,14 +28,21 @@ impl<H: Host> Units<H> {
     /// All memory is taken before anything changes, and the old bytes of the plan's units are read before.
     pub fn commit(&mut self, plan: Plan) -> Result<(), UnitError>
         requires { IsPlan self.old.header self.old.extent (units_of plan.units.items) }
-        ensures same { self.new ≡ record self.old { host = self.new.host; file = self.new.file;
-            header = self.new.header; changed = self.new.changed; stopped = self.new.stopped } }
+        ensures same { self.new ≡ record self.old {
+          host = self.new.host;
+          file = self.new.file;
+          header = self.new.header;
+          changed = self.new.changed;
+          stopped = self.new.stopped;
+        } }
         ensures header { OnOk result (self.new.header ≡ header_after self.old.header (units_of plan.units.items)) }
         ensures file { OnOk result (TellsOn self.old.file self.new.file
             (IsCarriedOut self.old.header (units_of plan.units.items))) }
         ensures changed { OnOk result (self.new.changed ≤ self.old.changed + length plan.units.items) }
         ensures err { OnErr result (self.new ≡ record self.old {
-            host = self.new.host; stopped = self.new.stopped }) }
+          host = self.new.host;
+          stopped = self.new.stopped;
+        }) }
         ensures kept { OnOk result (WhereTold H.told self.old
             (λ c image. KeptAllOrStored H.moment H.left_since image c.said self.old.host self.new.host)) }
         ensures any_moment { WhereTold H.told self.old
@@ -86,8 +93,8 @@ fn header_of(plan: &[UnitBytes], header: Header) -> Header
     header
 }
 
-/// Keeps the old bytes of the plan's units as far as the last epoch's database has them, but for units that wait: theirs
-/// are kept already. Where that fails, the images are those of before.
+/// Keeps the old bytes of the plan's units as far as the last epoch's database has them. Those of units that wait are
+/// kept already. Where that fails, the images are those of before.
 fn keep_plan<H: Host>(
     host: &mut H,
     images: &mut Group,
@@ -109,7 +116,15 @@ fn keep_plan<H: Host>(
     ensures cause { EndsReading (H.told host.old) (H.failures host.old) (H.failures host.new) result }
 {
     let count = images.count();
-    let kept = keep_each(host, images, scratch, waiting, plan, block_size, epoch_length);
+    let kept = keep_each(
+        host,
+        images,
+        scratch,
+        waiting,
+        plan,
+        block_size,
+        epoch_length,
+    );
     if kept.is_err() {
         images.truncate(count);
     }
@@ -137,7 +152,15 @@ fn keep_each<H: Host>(
     ensures cause { EndsReading (H.told host.old) (H.failures host.old) (H.failures host.new) result }
 {
     for unit in plan {
-        keep_one(host, images, scratch, waiting, unit, block_size, epoch_length)?;
+        keep_one(
+            host,
+            images,
+            scratch,
+            waiting,
+            unit,
+            block_size,
+            epoch_length,
+        )?;
     }
     Ok(())
 }

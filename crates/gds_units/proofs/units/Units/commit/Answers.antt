@@ -1,4 +1,4 @@
-use Rattle.std.proofs.Common.{◌≡◌, ◌≤◌, ◌+◌, ◌∙◌, ap, inl, length, subst, sym, arith}
+use Rattle.std.proofs.Common.{◌∙◌, ap, inl, subst, sym, arith}
 use Rattle.std.specs.Prelude.{All}
 use Rattle.std.proofs.lemmas.List.{length-map}
 use Rattle.host_model.specs.Told.{TellsOn}
@@ -9,7 +9,8 @@ use Rattle.gds_units.specs.Held.{AreUnits}
 use Rattle.gds_units.specs.Plan.{IsCarriedOut, IsPlan, header_after}
 use Rattle.gds_units.specs.State.{UnitsState, WhereTold, file_with}
 use Rattle.gds_units.proofs.DurableLemmas.{keeps_none, keeps_or}
-use Rattle.gds_units.proofs.CarriedLemmas.{file_carried_out, length-now, read_as_before, read_keeps, units_carried, units_read}
+use Rattle.gds_units.proofs.CarriedLemmas.{file_carried_out, length-now, read_as_before, read_keeps, units_carried}
+use Rattle.gds_units.proofs.CarriedLemmas.{units_read}
 use Rattle.gds_units.proofs.units.Units.commit.Goals as goal
 
 pub returns-then-self-clause-any_moment : goal.returns-then-self-clause-any_moment
@@ -60,7 +61,8 @@ invariant_of-self-2 g c =
     let plan = units_of c.args.plan.units.items in
     let is : IsPlan u.header u.extent plan =
     subst (λ (s : UnitsState g.row.H.Denot). IsPlan s.header s.extent plan) (sym c.self.view_is) c.requires in
-    let is_next = c.header_of-header.ensures ∙ ap (λ items. header_after u.header (units_of items)) c.deref.ensures.value in
+    let is_next = c.header_of-header.ensures
+    ∙ ap (λ items. header_after u.header (units_of items)) c.deref.ensures.value in
     units_carried u.host c.keep_plan.new.host u.header u.waiting.units u.before u.epoch_length u.extent u.is_stopped
     c.self.invariant e.read.told e.crash plan is c.header_of-header.result c.reserve.new.self.units
     c.drop_above.new.self.units c.put_all_reserved.new.self.units is_next c.reserve.ensures.same
@@ -78,7 +80,8 @@ returns-clause-file g c =
     let plan = units_of c.args.plan.units.items in
     let is : IsPlan u.header u.extent plan =
     subst (λ (s : UnitsState g.row.H.Denot). IsPlan s.header s.extent plan) (sym c.self.view_is) c.requires in
-    let is_next = c.header_of-header.ensures ∙ ap (λ items. header_after u.header (units_of items)) c.deref.ensures.value in
+    let is_next = c.header_of-header.ensures
+    ∙ ap (λ items. header_after u.header (units_of items)) c.deref.ensures.value in
     subst (λ (s : UnitsState g.row.H.Denot). TellsOn s.file (file_with c.header_of-header.result.block_size
     c.put_all_reserved.new.self.units (h.told c.keep_plan.new.host)) (IsCarriedOut s.header plan)) c.self.view_is
     (file_carried_out u.host c.keep_plan.new.host u.header u.waiting.units u.before u.epoch_length u.extent u.is_stopped
@@ -92,12 +95,17 @@ returns-clause-changed g c =
     let plan = units_of c.args.plan.units.items in
     let is : IsPlan u.header u.extent plan =
     subst (λ (s : UnitsState g.row.H.Denot). IsPlan s.header s.extent plan) (sym c.self.view_is) c.requires in
-    let is_next = c.header_of-header.ensures ∙ ap (λ items. header_after u.header (units_of items)) c.deref.ensures.value in
+    let is_next = c.header_of-header.ensures
+    ∙ ap (λ items. header_after u.header (units_of items)) c.deref.ensures.value in
     let short = length-now u.header c.header_of-header.result plan u.waiting.units c.reserve.new.self.units
     c.drop_above.new.self.units c.put_all_reserved.new.self.units is_next c.reserve.ensures.same
     c.drop_above.ensures.dropped c.put_all_reserved.ensures.put u.extent is c.self.invariant.places.inside in
-    omega (arith, short, length-map c.args.plan.units.items unit_of,
-    ap (λ (s : UnitsState g.row.H.Denot). s.changed) c.self.view_is)
+    omega (
+      arith,
+      short,
+      length-map c.args.plan.units.items unit_of,
+      ap (λ (s : UnitsState g.row.H.Denot). s.changed) c.self.view_is,
+    )
 
 pub returns-clause-kept : goal.returns-clause-kept
 returns-clause-kept g c =

@@ -1,10 +1,10 @@
-use Rattle.std.proofs.Common.{◌≡◌, ◌∙◌, arith, subst, take}
+use Rattle.std.proofs.Common.{◌∙◌, arith, subst, take}
 use Rattle.std.specs.Prelude.{All}
 use Rattle.std.proofs.lemmas.List.{take_all}
 use Rattle.host_model.proofs.FrameLemmas.{WasRead-then}
 use Rattle.host_model.proofs.MomentLemmas.{LeavesTheSame-trans}
 use Rattle.gds_epoch.specs.Epoch.{IsKept}
-use Rattle.gds_epoch.specs.WaitingView.{unit_of, units_of}
+use Rattle.gds_epoch.specs.WaitingView.{units_of}
 use Rattle.gds_units.specs.Keeping.{HasSize}
 use Rattle.gds_units.proofs.KeepingLemmas.{AddsTo-trans, all_kept_more, are_kept_more}
 use Rattle.gds_units.proofs.PlanLemmas.{all_more, unit_has}

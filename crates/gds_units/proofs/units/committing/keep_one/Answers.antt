@@ -1,5 +1,4 @@
-use Rattle.std.proofs.Common.{◌≡◌, ◌+◌, ◌<◌, ◌≤◌, ◌∙◌, arith, length, subst}
-use Rattle.gds_epoch.specs.Waiting.{place_of, size_of}
+use Rattle.std.proofs.Common.{arith}
 use Rattle.gds_epoch.specs.WaitingView.{unit_of}
 use Rattle.gds_units.proofs.KeepingLemmas.{added_of, found_kept, kept_of, old_of, size_from, size_to, unit_within}
 use Rattle.gds_units.proofs.units.committing.keep_one.Goals as goal
