@@ -6,4 +6,8 @@ mod SayingLemmas
 mod UnitLemmas
 mod ReadingLemmas
 mod SourcingLemmas
+mod KeepingLemmas
+mod DropLemmas
+mod PlanLemmas
+mod CarriedLemmas
 mod CreatingLemmas

@@ -6,4 +6,5 @@ pub mod Reading
 pub mod Ending
 pub mod Opening
 pub mod Laws
+pub mod Keeping
 pub mod Creating

@@ -1,3 +1,4 @@
+mod committing;
 mod creating;
 mod durable;
 mod opening;
