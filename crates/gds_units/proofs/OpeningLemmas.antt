@@ -23,7 +23,8 @@ use Rattle.gds_units.specs.Opening.{HoldsWhole, IsStable}
 -- A file of a header within the limits has a length of far less than 63 bits.
 pub file_length-short : (h : Header) → IsWithinLimits h → file_length_of h < 2 ^ 63
 file_length-short h limits =
-    let most = mul-le h.total h.block_size 1048576 65024 (omega (arith, limits.total_to, limits.limit_to)) limits.block_to in
+    let most =
+    mul-le h.total h.block_size 1048576 65024 (omega (arith, limits.total_to, limits.limit_to)) limits.block_to in
     omega (arith, most)
 
 module _ (h : Header) (c : Contents) (holds : HoldsWhole h c) where

@@ -1,5 +1,6 @@
 -- The image as a source of units has it.
-use Rattle.std.proofs.Common.{◌≡◌, ℕ, ◌<◌, ◌≤◌, ◌+◌, List, [], ◌∷◌, ◌++◌, length, take, drop, Option, None, Some, IfSome, Result, Err}
+use Rattle.std.proofs.Common.{◌≡◌, ℕ, ◌<◌, ◌≤◌, ◌+◌, List, [], ◌∷◌, ◌++◌, length, take, drop}
+use Rattle.std.proofs.Common.{Option, None, Some, IfSome, Result, Err}
 use Rattle.std.proofs.Common.{refl, ap, subst, arith, length-take}
 use Rattle.std.specs.Prelude.{All, option_map}
 use Rattle.std.specs.Option.{ForSome}
