@@ -7,3 +7,5 @@ mod chains;
 mod newborn;
 #[cfg(test)]
 mod recovery;
+#[cfg(test)]
+mod stops;
