@@ -67,22 +67,45 @@ fn sync_of_epoch(calls: &[Call]) -> u64 {
     0
 }
 
-/// No call comes after the one that failed, and what was there before is found.
+/// Whether no call comes after that of this number, and an opening finds the new database.
+fn has_stopped(alloc: Global, host: MemHost, number: u64) -> Result<bool, AllocError> {
+    let last = host.calls().len() as u64;
+    let (left, answer) = opened(alloc, host);
+    let expected = newborn(alloc)?;
+    Ok(last == number && answer.is_ok() && left.parts().0 == expected.as_slice())
+}
+
 #[test]
-fn writes_nothing_after_a_fault(rt: HostRuntime) -> Result<(), Fail> {
+fn stops_after_a_sync_that_failed(rt: HostRuntime) -> Result<(), Fail> {
     let alloc = rt.alloc();
-    let fault = Err(UnitError::WriteFault);
-    let stopped = Err(UnitError::Stopped);
-    let (whole, answers) = change_twice(alloc, 0)?;
-    assert_eq!(rt; answers, [Ok(()); 4]);
+    let (whole, _) = change_twice(alloc, 0)?;
     let number = sync_of_epoch(whole.calls());
     let (host, answers) = change_twice(alloc, number)?;
-    assert_eq!(rt; answers, [Ok(()), fault, stopped, stopped]);
-    assert_eq!(rt; host.calls().len() as u64, number);
-    assert_eq!(rt; opened(alloc, host).0.parts().0, newborn(alloc)?.as_slice());
+    let stopped = Err(UnitError::Stopped);
+    assert_eq!(rt;
+        answers,
+        [Ok(()), Err(UnitError::WriteFault), stopped, stopped]
+    );
+    assert_eq!(rt; has_stopped(alloc, host, number)?, true);
+    Ok(())
+}
+
+#[test]
+fn stops_after_a_write_that_failed(rt: HostRuntime) -> Result<(), Fail> {
+    let alloc = rt.alloc();
     let (host, answers) = grow_first(alloc, CREATE_CALLS + 1)?;
-    assert_eq!(rt; answers, [fault, stopped, stopped, stopped, stopped]);
-    assert_eq!(rt; host.calls().len() as u64, CREATE_CALLS + 1);
+    let stopped = Err(UnitError::Stopped);
+    assert_eq!(rt;
+        answers,
+        [
+            Err(UnitError::WriteFault),
+            stopped,
+            stopped,
+            stopped,
+            stopped
+        ]
+    );
+    assert_eq!(rt; has_stopped(alloc, host, CREATE_CALLS + 1)?, true);
     Ok(())
 }
 

@@ -63,7 +63,8 @@ pub(crate) fn make_room(units: &mut Units<MemHost>, total: u32) -> Result<(), Un
     }
 }
 
-/// Commits another total, which is the next transaction's number too, and a block that is filled with a byte.
+/// Commits another total, which is the next transaction's number too, and a block that is filled with a byte. Where no
+/// plan may have these numbers the answer is `Memory`.
 pub(crate) fn change(
     alloc: Global,
     units: &mut Units<MemHost>,
@@ -89,6 +90,7 @@ pub(crate) fn change(
     units.commit(plan)
 }
 
+/// Cuts the file. Where units wait the answer is `Memory`.
 pub(crate) fn shorten(units: &mut Units<MemHost>) -> Result<(), UnitError> {
     if units.changed() > 0 {
         return Err(UnitError::Memory);
