@@ -1,0 +1,3 @@
+pub mod PlaceLemmas
+pub mod GlobalLemmas
+pub mod LeafLemmas

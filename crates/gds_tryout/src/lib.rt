@@ -1,0 +1,8 @@
+//! The laws about changed trees, tried out: changes of a database file in memory that keep it sound.
+//!
+//! A file is a slice of bytes here, changed in place, with no commit and no crash.
+#![tactic(auto)]
+
+mod blocks;
+
+pub use blocks::{block, put_block};
