@@ -1,3 +1,4 @@
 pub mod PlaceLemmas
 pub mod GlobalLemmas
 pub mod LeafLemmas
+pub mod EntryLemmas

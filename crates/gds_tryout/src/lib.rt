@@ -4,5 +4,6 @@
 #![tactic(auto)]
 
 mod blocks;
+mod entries;
 
 pub use blocks::{block, put_block};
