@@ -1,11 +1,11 @@
 -- What is known of a global of a sound file, and that its tree may change.
-use Rattle.std.proofs.Common.{◌≡◌, ◌≢◌, ℕ, ◌+◌, ◌<◌, ◌≤◌, ◌%◌, true, List, [], ◌∷◌, ◌++◌, Some, refl, sym, ap, subst, ◌∙◌, arith}
+use Rattle.std.proofs.Common.{◌≡◌, ◌≢◌, ℕ, ◌+◌, ◌<◌, ◌≤◌, ◌%◌, ◌==◌, true, List, [], ◌∷◌, ◌++◌, Some, refl, sym, ap, subst, ◌∙◌, arith}
 use Rattle.std.proofs.Common.{inl, inr}
-use Rattle.std.specs.Prelude.{nat_eq, IsTrue}
+use Rattle.std.specs.Prelude.{◌^◌, nat_eq, nat_lt, IsTrue}
 use Rattle.std.specs.List.{IsDistinct}
-use Rattle.std.proofs.lemmas.Bool.{ltb-false, or_left}
+use Rattle.std.proofs.lemmas.Bool.{ltb-false, or_parts}
 use Rattle.gds_block.specs.Item.{Item}
-use Rattle.gds_header.specs.declared.kind.HeaderKind.TheVariants.{ShortFile}
+use Rattle.gds_header.specs.declared.kind.HeaderKind.TheVariants.{ShortFile, BadTransactionNumber}
 use Rattle.gds_header.specs.Fields.{fields_of, image_length, block_of}
 use Rattle.gds_law.specs.Visit.{Visit}
 use Rattle.gds_sound.specs.Sound.{Tree, tree_at, root_of, IsSound}
@@ -35,6 +35,12 @@ module _ (file : List ℕ) (g : GlobalOf file) where
     whole = ltb-false _ (image_length file)
         (none_of_header file g.sound.header ShortFile (inr (inr (inr (inr (inr (inr (inl refl))))))));
   }
+
+  pub tn_small : (fields_of file).tn ≤ 2 ^ 63
+  tn_small =
+      let none = none_of_header file g.sound.header BadTransactionNumber
+      (inr (inr (inr (inr (inr (inr (inr (inr (inr (inl refl)))))))))) in
+      ltb-false (2 ^ 63) (fields_of file).tn (or_parts ((fields_of file).tn == 0) (nat_lt (2 ^ 63) (fields_of file).tn) none).1
 
   pub lawful_file : IsLawful file
   lawful_file = record {

@@ -5,15 +5,17 @@ use Rattle.std.specs.Prelude.{nat_eq, IsTrue}
 use Rattle.std.proofs.lemmas.Bool.{or_left, or_cases, eq-eqb, eqb-true, ne_eqb, false_from_ne_true, cases_eq}
 use Rattle.std.proofs.lemmas.List.Elements.{All-from_recursion}
 use Rattle.std.specs.List.{AllByRecursion, IsDistinct}
-use Rattle.gds_block.specs.Block.{level_of}
+use Rattle.gds_block.specs.Block.{level_of, used_of, IsBlock}
 use Rattle.gds_block.specs.Item.{Item}
+use Rattle.gds_header.specs.declared.header.Header.{Header}
 use Rattle.gds_header.specs.Fields.{fields_of, file_length_of, block_of}
 use Rattle.gds_header.specs.Kinds.{IsWithinLimits}
 use Rattle.gds_law.specs.Visit.{Visit}
 use Rattle.gds_law.proofs.MembershipLemmas.{IsIn}
-use Rattle.gds_pack.specs.Unpacked.{entries_of}
+use Rattle.gds_pack.specs.Packed.{packed_size}
 use Rattle.gds_sound.specs.Sound.{Tree, joined, tree_at, sound_tree, root_of, IsSound}
 use Rattle.gds_sound.proofs.CountLemmas.{count, count_append}
+use Rattle.gds_sound.proofs.HeaderLemmas.{block_whole}
 use Rattle.gds_sound.proofs.PathLemmas.{distinct_from_counts, any_counted, counted_any}
 use Rattle.gds_sound.proofs.TreeLemmas.{own_level}
 use Rattle.gds_tree.specs.Around.{around, IsAround}
@@ -29,6 +31,7 @@ use Rattle.gds_file.specs.Rewrite.{Rewrites}
 use Rattle.gds_file.proofs.FileLemmas.{global_changes}
 use Rattle.gds_file.proofs.RewriteLemmas.{rewrite_keeps_header, rewrite_stays_lawful, rewrite_is_reshape}
 use Rattle.gds_file.proofs.UseLemmas.{has_in, in_has, IsProper}
+use Rattle.gds_tryout.specs.File.{IsFile}
 use Rattle.gds_tryout.specs.Global.{GlobalOf, LeafOf, SoundWith}
 use Rattle.gds_tryout.proofs.GlobalLemmas.{whole_image, lawful_file, tree_there, proper_there, busy_there, once_there}
 
@@ -38,7 +41,7 @@ or_none : (t : Bool) → (t || false) ≡ true → t ≡ true
 or_none true h = refl
 or_none false h = h
 
-rewritten_image : (old new blocks : List ℕ) → IsImage old → Rewrites old new blocks → IsImage new
+pub rewritten_image : (old new blocks : List ℕ) → IsImage old → Rewrites old new blocks → IsImage new
 rewritten_image old new blocks i r =
     let fields = rewrite_keeps_header old new blocks r in
     record {
@@ -192,3 +195,28 @@ module _ (old : List ℕ) (number : ℕ) (at : LeafOf old number) where
               (distinct_from_counts g.tree.blocks (once_there old g));
         })
         (rewrite_stays_lawful old new (number ∷ []) (lawful_file old g) r no_map)
+
+-- ---- the leaf as a block
+
+module _ (file : List ℕ) (number : ℕ) (at : LeafOf file number) where
+  module _ (h : Header) (header : h ≡ fields_of file) where
+    pub leaf_file : IsFile file h
+    leaf_file = record { header = sym header; whole = whole_image file at.global }
+
+    pub leaf_within : number < h.total
+    leaf_within = omega (arith, (leaf_proper file number at).within, ap (λ (g : Header). g.total) header)
+
+  -- it can be read
+  pub leaf_block : IsBlock (block_of file number)
+  leaf_block =
+      let t = in_tree file number at in
+      let size = block_whole file number at.global.sound.header (leaf_proper file number at).within in
+      let head = t.has.right.head in
+      let most = (whole_image file at.global).limits.block_from in
+      let used : used_of (block_of file number) ≡ packed_size t.es =
+      ap (λ n. used_of (block_of file n)) (sym at.ends) ∙ head.used in
+      record {
+        head = omega (arith, size, most);
+        covered = omega (arith, used);
+        within = omega (arith, used, head.fits, size);
+      }

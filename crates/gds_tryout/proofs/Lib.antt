@@ -2,3 +2,4 @@ pub mod PlaceLemmas
 pub mod GlobalLemmas
 pub mod LeafLemmas
 pub mod EntryLemmas
+pub mod ValueLemmas

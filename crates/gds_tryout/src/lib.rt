@@ -5,5 +5,7 @@
 
 mod blocks;
 mod entries;
+mod values;
 
-pub use blocks::{block, put_block};
+pub use blocks::{block, block_tn, put_block, read_entries};
+pub use values::{Outcome, replace_value};
