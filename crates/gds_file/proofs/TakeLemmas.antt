@@ -23,11 +23,11 @@ use Rattle.gds_file.proofs.RightMapLemmas.{free_pair, busy_by_pair, not_busy_pas
 
 -- ---- counts over a run of numbers
 
-abbrev one_of : Bool → ℕ
+abbrev pub one_of : Bool → ℕ
 one_of true = 1
 one_of false = 0
 
-filtered : (p : ℕ → Bool) (x : ℕ) (xs : List ℕ) → length (filter p (x ∷ xs)) ≡ one_of (p x) + length (filter p xs)
+pub filtered : (p : ℕ → Bool) (x : ℕ) (xs : List ℕ) → length (filter p (x ∷ xs)) ≡ one_of (p x) + length (filter p xs)
 filtered p x xs = by (p x) refl
   where
     by : (t : Bool) → p x ≡ t → length (filter p (x ∷ xs)) ≡ one_of (p x) + length (filter p xs)
@@ -41,7 +41,7 @@ filtered p x xs = by (p x) refl
         omega (arith, ap length is, none)
 
 -- the numbers from one on, so many, but for one of them
-abbrev Beside : ℕ → ℕ → ℕ → (ℕ → Type 0) → Type 0
+abbrev pub Beside : ℕ → ℕ → ℕ → (ℕ → Type 0) → Type 0
 Beside from n x P = (y : ℕ) → from ≤ y → y < from + n → y ≢ x → P y
 
 module _ (p q : ℕ → Bool) where
@@ -49,7 +49,7 @@ module _ (p q : ℕ → Bool) where
       ≡ one_of (r from) + length (filter r (range_with_len (from + 1) n))
   first r from n = filtered r from (range_with_len (from + 1) n)
 
-  filter_same : (from n : ℕ) → ((y : ℕ) → from ≤ y → y < from + n → q y ≡ p y)
+  pub filter_same : (from n : ℕ) → ((y : ℕ) → from ≤ y → y < from + n → q y ≡ p y)
       → length (filter q (range_with_len from n)) ≡ length (filter p (range_with_len from n))
   filter_same from zero h = refl
   filter_same from (suc n) h =
@@ -57,7 +57,7 @@ module _ (p q : ℕ → Bool) where
       let rest = filter_same (from + 1) n (λ y low high. h y (omega (arith, low)) (omega (arith, high))) in
       omega (arith, first p from n, first q from n, here, rest)
 
-  filter_less : (x from n : ℕ) → from ≤ x → x < from + n → p x ≡ true → q x ≡ false
+  pub filter_less : (x from n : ℕ) → from ≤ x → x < from + n → p x ≡ true → q x ≡ false
       → Beside from n x (λ y. q y ≡ p y)
       → length (filter q (range_with_len from n)) + 1 ≡ length (filter p (range_with_len from n))
   filter_less x from zero low high here gone beside = absurd (omega (arith, low, high))
