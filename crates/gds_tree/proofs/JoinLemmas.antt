@@ -252,3 +252,43 @@ elsewhere h v w level es l role low high = record {
       let m = l.none e in
       record { leaf = m.leaf; role = role ∙ m.role; low = low ∙ m.low; high = high ∙ m.high };
 }
+
+-- ---- an entry of an index block that becomes two
+
+lawful_pointer : (h : Header) (role : TreeRole) (level : ℕ) (rest : List ℕ) → IsPointer h rest
+    → IsLawfulRest h role (suc level) rest
+lawful_pointer h directory level rest q = q
+lawful_pointer h (global name) level rest q = q
+
+second_index : (previous key : List ℕ) (e : Item) (right : List ℕ) (b : List Item) → length right ≡ 4
+    → AreIndex previous (e ∷ b) → (e.key ≢ [] → Below key e.key)
+    → AreIndex key (record { key = e.key; rest = right } ∷ b)
+second_index previous key e right [] size index above = (index.0, size)
+second_index previous key e right (g ∷ b) size index above = (
+  record { is_key = index.0.is_key; above = below_less key e.key (above (some_key e.key index.0.is_key)) },
+  size,
+  index.2,
+)
+
+pub entry_parted : (h : Header) (v : Visit) (level : ℕ) (a : List Item) (e : Item) (b : List Item) (key left right : List ℕ)
+    → IsLawful h v (suc level) (a ++ e ∷ b) → IsKey key → IsLawfulKey h v (suc level) key → Below (key_behind [] a) key
+    → (e.key ≢ [] → Below key e.key) → IsPointer h left → IsPointer h right
+    → IsLawful h v (suc level) (a ++ record { key = key; rest = left } ∷ record { key = e.key; rest = right } ∷ b)
+entry_parted h v level a e b key left right l is_key lawful above below first second =
+    let p : Item = record { key = key; rest = left } in
+    let q : Item = record { key = e.key; rest = right } in
+    let front = index_front [] a e b l.packable in
+    let all = each h v (suc level) (a ++ e ∷ b) l in
+    let here = all_right (IsLawfulEntry h v (suc level)) a (e ∷ b) all in
+    let next : IsNext (key_behind [] a) p =
+    record { is_key = is_key; above = below_less (key_behind [] a) key above } in
+    record {
+      packable = index_join [] a (p ∷ q ∷ b) front.leaves front.fours
+          (next, first.size, second_index (key_behind [] a) key e right b second.size front.rest below);
+      each = All-from_recursion (IsLawfulEntry h v (suc level)) (a ++ p ∷ q ∷ b)
+          (all_both (IsLawfulEntry h v (suc level)) a (p ∷ q ∷ b)
+          (all_left (IsLawfulEntry h v (suc level)) a (e ∷ b) all)
+          (record { key = λ some. lawful; rest = lawful_pointer h v.role level left first },
+            (record { key = here.0.key; rest = lawful_pointer h v.role level right second }, here.1)));
+      none = λ none. absurd (not_empty a p (q ∷ b) none);
+    }

@@ -13,5 +13,6 @@ pub use change_laws::{
     collapsed_root, other_numbers, replaced_entries, split_block, split_root, tree_inside,
 };
 pub use entry_laws::{
-    changed_index, changed_leaf, cut_entries, joined_entries, other_visit, trees_of_front,
+    changed_index, changed_leaf, cut_entries, joined_entries, other_visit, parted_entry,
+    trees_of_front,
 };
