@@ -1,21 +1,19 @@
 -- What is known of a global of a sound file, and that its tree may change.
-use Rattle.std.proofs.Common.{◌≡◌, ◌≢◌, ℕ, ◌+◌, ◌<◌, ◌≤◌, ◌%◌, ◌==◌, true, List, [], ◌∷◌, ◌++◌, length, Some, refl, sym, ap, subst, ◌∙◌, arith}
+use Rattle.std.proofs.Common.{◌≡◌, ℕ, ◌+◌, ◌≤◌, ◌==◌, List, [], ◌∷◌, ◌++◌, length, Some, refl, subst, ◌∙◌, arith}
 use Rattle.std.proofs.Common.{inl, inr}
-use Rattle.std.specs.Prelude.{◌^◌, nat_eq, nat_lt, IsTrue}
-use Rattle.std.specs.List.{IsDistinct}
+use Rattle.std.specs.Prelude.{◌^◌, nat_lt, IsTrue}
 use Rattle.std.proofs.lemmas.Bool.{ltb-false, eqb-false, or_parts}
-use Rattle.gds_block.specs.Item.{Item}
 use Rattle.gds_header.specs.declared.kind.HeaderKind.TheVariants.{ShortFile, BadTransactionNumber}
-use Rattle.gds_header.specs.Fields.{fields_of, image_length, block_of}
+use Rattle.gds_header.specs.Fields.{fields_of, image_length}
 use Rattle.gds_header.specs.Kinds.{header_faults}
 use Rattle.gds_law.specs.Visit.{Visit}
-use Rattle.gds_sound.specs.Sound.{Tree, tree_at, root_of, IsSound}
+use Rattle.gds_sound.specs.Sound.{tree_at, root_of}
 use Rattle.gds_sound.proofs.CountLemmas.{count}
 use Rattle.gds_sound.proofs.HeaderLemmas.{limits_of, none_of_header}
-use Rattle.gds_sound.proofs.PathLemmas.{counts_from_distinct, distinct_from_counts, any_counted, counted_any}
+use Rattle.gds_sound.proofs.PathLemmas.{counts_from_distinct, any_counted, counted_any}
 use Rattle.gds_sound.proofs.SoundLemmas.{AreTrees, blocks_of}
 use Rattle.gds_tree.specs.Keeps.{IsImage}
-use Rattle.gds_file.specs.Maps.{has_block, is_busy}
+use Rattle.gds_file.specs.Maps.{has_block}
 use Rattle.gds_file.specs.FileLaws.{IsLawful}
 use Rattle.gds_file.specs.Rewrite.{AreAllBusy}
 use Rattle.gds_file.proofs.FileLemmas.{trees_split, with_global, beside}

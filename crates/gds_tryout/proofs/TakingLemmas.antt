@@ -1,7 +1,7 @@
 -- What is left of a file of which a block was taken: marked in its map, and the header written anew.
-use Rattle.std.proofs.Common.{◌≡◌, ◌≢◌, ℕ, zero, suc, ◌+◌, ◌-◌, ◌*◌, ◌/◌, ◌%◌, ◌<◌, ◌≤◌, ◌==◌, ◌||◌, Bool, true, false, not, ◌&&◌}
+use Rattle.std.proofs.Common.{◌≡◌, ◌≢◌, ℕ, zero, suc, ◌+◌, ◌-◌, ◌*◌, ◌/◌, ◌%◌, ◌≤◌, ◌==◌, ◌||◌, Bool, true, false, not, ◌&&◌}
 use Rattle.std.proofs.Common.{List, [], ◌∷◌, ◌++◌, length, take, drop, filter, refl, sym, ap, subst, ◌∙◌, arith, inl, inr}
-use Rattle.std.proofs.Common.{length-append, length-take, length-drop}
+use Rattle.std.proofs.Common.{length-take, length-drop}
 use Rattle.std.specs.Prelude.{nat_eq, nat_lt}
 use Rattle.std.specs.List.{list_any, range_with_len, starts_with}
 use Rattle.std.proofs.lemmas.Bool.{ltb-false, ne_eqb}
@@ -14,7 +14,7 @@ use Rattle.gds_header.specs.Fields.{label, fields_of, header_bytes, block_of, im
 use Rattle.gds_header.specs.Kinds.{IsWithinLimits, header_faults, has_free, groups_of, groups_past, reserved_bytes}
 use Rattle.gds_header.proofs.EndingLemmas.{reserved_bytes-front}
 use Rattle.gds_law.specs.Maps.{map_of, has_free_place, places}
-use Rattle.gds_sound.proofs.HeaderLemmas.{right_header, none_of_header, limits_of, same_fields}
+use Rattle.gds_sound.proofs.HeaderLemmas.{right_header, none_of_header, limits_of}
 use Rattle.std.proofs.lemmas.Bool.{or_parts}
 use Rattle.gds_new.proofs.HeaderLemmas.{length-header_bytes}
 use Rattle.gds_new.proofs.ReservedLemmas.{reserved_none}
@@ -24,7 +24,7 @@ use Rattle.gds_file.specs.TakeLaws.{IsFree}
 use Rattle.gds_file.specs.FileLaws.{IsLawful}
 use Rattle.gds_file.proofs.RewriteLemmas.{rewrite_keeps_header}
 use Rattle.gds_file.proofs.TakeLemmas.{take_stays_lawful}
-use Rattle.gds_tryout.proofs.GlobalLemmas.{image_of, tn_of_header}
+use Rattle.gds_tryout.proofs.GlobalLemmas.{tn_of_header}
 
 -- what is tested of the numbers from one on
 any_same : (p q : ℕ → Bool) (from n : ℕ) → ((y : ℕ) → from ≤ y → p y ≡ q y)

@@ -1,5 +1,5 @@
 use Rattle.std.proofs.Common.{◌∙◌}
-use Rattle.gds_tryout.proofs.FreeLemmas.{some_free, free_below}
+use Rattle.gds_tryout.proofs.FreeLemmas.{some_free}
 use Rattle.gds_tryout.proofs.taking.mark_in.Goals as goal
 
 pub returns-clause-left : goal.returns-clause-left

@@ -1,6 +1,5 @@
-use Rattle.std.proofs.Common.{◌≡◌, ◌≢◌, ℕ, ◌+◌, ◌-◌, ◌/◌, ◌<◌, ◌≤◌, ◌∙◌, refl, sym, ap, subst, length, arith}
+use Rattle.std.proofs.Common.{◌-◌, ◌∙◌, sym, ap, arith}
 use Rattle.gds_header.specs.declared.header.Header.{Header}
-use Rattle.gds_header.specs.Fields.{fields_of}
 use Rattle.gds_header.specs.Kinds.{has_free}
 use Rattle.gds_tryout.proofs.GlobalLemmas.{image_of}
 use Rattle.gds_tryout.proofs.TakingLemmas.{taken, still_lawful}

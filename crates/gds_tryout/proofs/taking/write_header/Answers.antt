@@ -1,4 +1,4 @@
-use Rattle.std.proofs.Common.{◌≡◌, ◌∙◌, ◌++◌, drop, length, length-take, arith, ap, sym}
+use Rattle.std.proofs.Common.{◌≡◌, ◌∙◌, drop, length, length-take, arith}
 use Rattle.gds_tryout.proofs.HeaderLemmas.{fields_in_front}
 use Rattle.gds_tryout.proofs.taking.write_header.Goals as goal
 
