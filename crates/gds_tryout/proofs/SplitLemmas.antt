@@ -1,22 +1,16 @@
 -- A leaf that is split keeps the file sound.
-use Rattle.std.proofs.Common.{◌≡◌, ◌≢◌, ℕ, zero, suc, ◌+◌, ◌*◌, ◌/◌, ◌%◌, ◌<◌, ◌≤◌, Bool, true, false, not, ◌&&◌, ◌||◌, List, []}
-use Rattle.std.proofs.Common.{◌∷◌, ◌++◌, length, Option, Some, refl, sym, ap, subst, ◌∙◌, arith, ◌⊎◌, inl, inr}
-use Rattle.std.proofs.Common.{append_assoc, append-nil}
+use Rattle.std.proofs.Common.{◌≡◌, ◌≢◌, ℕ, ◌+◌, ◌%◌, ◌<◌, ◌≤◌, Bool, true, false, not, ◌&&◌, ◌||◌, List, []}
+use Rattle.std.proofs.Common.{◌∷◌, ◌++◌, Option, Some, refl, sym, ap, subst, ◌∙◌, arith, inl, inr}
+use Rattle.std.proofs.Common.{append_assoc}
 use Rattle.std.specs.Prelude.{nat_eq, IsTrue}
-use Rattle.std.specs.List.{IsDistinct, AllByRecursion}
-use Rattle.std.proofs.lemmas.Bool.{or_left, or_right, or_cases, eq-eqb, eqb-true, ne_eqb, false_from_ne_true, both_ways, cases_lt}
+use Rattle.std.proofs.lemmas.Bool.{or_left, or_right, or_cases, eq-eqb, eqb-true, ne_eqb, both_ways, cases_lt}
 use Rattle.std.proofs.lemmas.Bool.{cases_eq}
 use Rattle.std.proofs.lemmas.List.Elements.{All-from_recursion}
-use Rattle.gds_block.specs.Block.{level_of}
 use Rattle.gds_block.specs.Fields.{u32_at}
-use Rattle.gds_block.specs.Item.{Item}
-use Rattle.gds_header.specs.declared.header.Header.{Header}
 use Rattle.gds_header.specs.Fields.{fields_of, block_of}
 use Rattle.gds_law.specs.Visit.{Visit}
-use Rattle.gds_law.proofs.MembershipLemmas.{IsIn}
-use Rattle.gds_pack.specs.Packed.{key_behind}
 use Rattle.gds_pack.specs.Unpacked.{entries_of}
-use Rattle.gds_sound.specs.Sound.{Tree, joined, tree_at, sound_tree, root_of}
+use Rattle.gds_sound.specs.Sound.{Tree, joined, sound_tree, root_of}
 use Rattle.gds_sound.proofs.CountLemmas.{count, count_append}
 use Rattle.gds_sound.proofs.KeptLemmas.{same_tests}
 use Rattle.gds_sound.proofs.PathLemmas.{distinct_from_counts, any_counted, counted_any}
@@ -26,21 +20,21 @@ use Rattle.m_key.specs.Key.{AtMost}
 use Rattle.gds_tree.specs.Around.{around}
 use Rattle.gds_tree.specs.Below.{low_behind, visit_below, both, trees_below, HasEntries, leaf_tree, index_tree}
 use Rattle.gds_tree.specs.Keeps.{IsImage, KeepsSizes, KeepsBlocks}
-use Rattle.gds_tree.proofs.BelowLemmas.{AreBoth, both_parts, some_both, below_append, low_append, joined_none}
+use Rattle.gds_tree.proofs.BelowLemmas.{both_parts, some_both, below_append, low_append, joined_none}
 use Rattle.gds_tree.proofs.ReplaceLemmas.{replaced}
 use Rattle.gds_tree.proofs.RootLemmas.{same_entries}
-use Rattle.gds_tree.proofs.TreeByLemmas.{leaf_by, IndexBy, by_index}
+use Rattle.gds_tree.proofs.TreeByLemmas.{leaf_by, by_index}
 use Rattle.gds_tree.proofs.WidenLemmas.{most_same}
 use Rattle.gds_file.specs.Maps.{has_block, is_busy}
 use Rattle.gds_file.specs.Reshape.{Reshapes}
 use Rattle.gds_file.specs.FileLaws.{IsLawful}
-use Rattle.gds_file.specs.Rewrite.{AreNoMaps, AreAllBusy}
+use Rattle.gds_file.specs.Rewrite.{AreAllBusy}
 use Rattle.gds_file.proofs.FileLemmas.{global_changes}
-use Rattle.gds_file.proofs.ReshapeLemmas.{reshapes_compose, reshapes_with_more, reshapes_in_any_order, has_append}
+use Rattle.gds_file.proofs.ReshapeLemmas.{reshapes_compose, reshapes_with_more, reshapes_in_any_order}
 use Rattle.gds_file.proofs.RewriteLemmas.{rewrite_keeps_header, rewrite_stays_lawful, rewrite_is_reshape}
 use Rattle.gds_file.proofs.TakeLemmas.{take_reshapes}
-use Rattle.gds_file.proofs.UseLemmas.{in_has, IsProper}
-use Rattle.gds_tryout.specs.Global.{GlobalOf, SoundWith}
+use Rattle.gds_file.proofs.UseLemmas.{in_has}
+use Rattle.gds_tryout.specs.Global.{GlobalOf}
 use Rattle.gds_tryout.specs.Split.{SplitsLeaf, KeepsItems, below}
 use Rattle.gds_tryout.proofs.GlobalLemmas.{image_of, whole_image, tree_there, proper_there, busy_there, once_there}
 use Rattle.gds_tryout.proofs.LeafLemmas.{all_in}
@@ -114,10 +108,13 @@ module _ (old mid new : List ℕ) (g : GlobalOf old) (free : ℕ) (s : SplitsLea
       ≡ count n (root.block ∷ []) + (count n in_parts.before.blocks + (count n (leaf ∷ []) + count n in_parts.behind.blocks))
   counts n =
       let t = in_parts in
-      omega (arith, ap (λ (w : Tree). count n w.blocks) t.whole,
+      omega (
+        arith,
+        ap (λ (w : Tree). count n w.blocks) t.whole,
         count_append n (root.block ∷ []) (t.before.blocks ++ ((leaf ∷ []) ++ t.behind.blocks)),
         count_append n t.before.blocks ((leaf ∷ []) ++ t.behind.blocks),
-        count_append n (leaf ∷ []) t.behind.blocks)
+        count_append n (leaf ∷ []) t.behind.blocks,
+      )
 
   own_count : (n : ℕ) → 1 ≤ count n (n ∷ [])
   own_count n = any_counted n (n ∷ []) (or_left (nat_eq n n) false (eq-eqb n n refl))
@@ -132,10 +129,20 @@ module _ (old mid new : List ℕ) (g : GlobalOf old) (free : ℕ) (s : SplitsLea
       let there : IsTrue (has_block g.tree.blocks n) = counted_any n g.tree.blocks (omega (arith, counts n, some)) in
       let proper = proper_there old g n there in
       let once = once_there old g n in
-      let no_root : n ≢ root.block = λ e. omega (arith, counts n, some, once,
-        subst (λ m. 1 ≤ count n (m ∷ [])) e (own_count n)) in
-      let no_leaf : n ≢ leaf = λ e. omega (arith, counts n, some, once,
-        subst (λ m. 1 ≤ count n (m ∷ [])) e (own_count n)) in
+      let no_root : n ≢ root.block = λ e. omega (
+        arith,
+        counts n,
+        some,
+        once,
+        subst (λ m. 1 ≤ count n (m ∷ [])) e (own_count n),
+      ) in
+      let no_leaf : n ≢ leaf = λ e. omega (
+        arith,
+        counts n,
+        some,
+        once,
+        subst (λ m. 1 ≤ count n (m ∷ [])) e (own_count n),
+      ) in
       s.writes.others n (λ k. ne_eqb n root.block no_root k || (ne_eqb n leaf no_leaf k || (ne_eqb n free (not_taken n
       there) k || false)))
       ∙ s.takes.others n (λ e. proper.no_map (omega (arith, e)))
@@ -249,12 +256,16 @@ module _ (old mid new : List ℕ) (g : GlobalOf old) (free : ℕ) (s : SplitsLea
       let t = in_parts in
       let l : ℕ = u32_at s.left.rest 0 in
       let r : ℕ = u32_at s.right.rest 0 in
-      omega (arith, counts n,
+      omega (
+        arith,
+        counts n,
         count_append n (root.block ∷ []) ((t.before.blocks ++ (l ∷ r ∷ [])) ++ t.behind.blocks),
         count_append n (t.before.blocks ++ (l ∷ r ∷ [])) t.behind.blocks,
         count_append n t.before.blocks (l ∷ r ∷ []),
         count_append n (l ∷ []) (r ∷ []),
-        ap (λ m. count n (m ∷ [])) s.left_block, ap (λ m. count n (m ∷ [])) s.right_block)
+        ap (λ m. count n (m ∷ [])) s.left_block,
+        ap (λ m. count n (m ∷ [])) s.right_block,
+      )
 
   once_now : (n : ℕ) → count n tree_now.blocks ≤ 1
   once_now n = elim (cases_lt 0 (count n g.tree.blocks)) [
