@@ -10,12 +10,14 @@ use Rattle.gds_pack.specs.Unpacked.{entries_of}
 use Rattle.gds_sound.specs.Sound.{Tree, joined, sound_tree}
 use Rattle.m_key.specs.KeyEnd.{IsKey}
 use Rattle.gds_tree.specs.Lawful.{IsLawfulEntry}
-use Rattle.gds_tree.specs.Below.{as_star, high_below, low_behind, visit_below, both, trees_below, HasEntries, index_tree}
+use Rattle.gds_tree.specs.Below.{as_star, high_below, low_behind, visit_below, both, trees_below, HasEntries}
+use Rattle.gds_tree.specs.Below.{index_tree}
 use Rattle.gds_tree.specs.Keeps.{IsImage, KeepsSizes, KeepsBlocks}
 use Rattle.gds_tree.specs.Split.{PartsAt, InTwoPieces}
 use Rattle.gds_tree.proofs.AroundLemmas.{kept_left, kept_right}
 use Rattle.gds_tree.proofs.FineLemmas.{some_key}
-use Rattle.gds_tree.proofs.BelowLemmas.{all_left, all_right, both_parts, some_both, below_append, low_append, joined_none}
+use Rattle.gds_tree.proofs.BelowLemmas.{all_left, all_right, both_parts, some_both, below_append, low_append}
+use Rattle.gds_tree.proofs.BelowLemmas.{joined_none}
 use Rattle.gds_tree.proofs.PartLemmas.{lawful_index}
 use Rattle.gds_tree.proofs.ItemLemmas.{packable}
 use Rattle.gds_tree.proofs.ReplaceLemmas.{forest_grown}

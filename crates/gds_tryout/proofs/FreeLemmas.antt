@@ -1,5 +1,6 @@
 -- Whether a place of a map is free.
-use Rattle.std.proofs.Common.{◌≡◌, ℕ, zero, suc, ◌+◌, ◌-◌, ◌*◌, ◌<◌, ◌≤◌, Bool, true, false, not, ◌&&◌, List, length, filter, refl}
+use Rattle.std.proofs.Common.{◌≡◌, ℕ, zero, suc, ◌+◌, ◌-◌, ◌*◌, ◌<◌, ◌≤◌, Bool, true, false, not, ◌&&◌, List, length}
+use Rattle.std.proofs.Common.{filter, refl}
 use Rattle.std.proofs.Common.{sym, ap, ◌∙◌, arith, Option, None, Some, inl, inr}
 use Rattle.std.specs.Prelude.{nat_eq, nat_lt, IfSome, IfNone, min}
 use Rattle.std.specs.List.{range_with_len}

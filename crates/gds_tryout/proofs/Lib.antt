@@ -7,3 +7,4 @@ pub mod FreeLemmas
 pub mod HeaderLemmas
 pub mod TakingLemmas
 pub mod SplitLemmas
+pub mod WrittenLemmas

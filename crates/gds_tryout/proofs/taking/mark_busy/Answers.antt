@@ -1,4 +1,5 @@
-use Rattle.std.proofs.Common.{ℕ, ◌≡◌, ◌+◌, ◌-◌, ◌*◌, ◌/◌, ◌<◌, ◌%◌, ◌∙◌, arith, ap, sym, subst, length, take, drop, length-take, length-drop}
+use Rattle.std.proofs.Common.{ℕ, ◌≡◌, ◌+◌, ◌-◌, ◌*◌, ◌/◌, ◌<◌, ◌%◌, ◌∙◌, arith, ap, sym, subst, length, take, drop}
+use Rattle.std.proofs.Common.{length-take, length-drop}
 use Rattle.gds_bitmap.specs.Bitmap.{Marks}
 use Rattle.gds_bitmap.specs.declared.state.State.TheVariants.{Busy}
 use Rattle.gds_header.specs.Fields.{block_of}
