@@ -1,7 +1,6 @@
 -- What was written by a split is one.
-use Rattle.std.proofs.Common.{◌≡◌, ◌≢◌, ℕ, ◌+◌, ◌<◌, ◌≤◌, ◌||◌, false, List, [], ◌∷◌, ◌++◌, Some}
+use Rattle.std.proofs.Common.{◌≡◌, ◌≢◌, ℕ, ◌<◌, ◌≤◌, ◌||◌, false, List, [], ◌∷◌, ◌++◌, Some}
 use Rattle.std.proofs.Common.{refl, sym, ap, subst, ◌∙◌, arith}
-use Rattle.std.specs.Prelude.{◌^◌}
 use Rattle.std.proofs.lemmas.Bool.{ne_eqb}
 use Rattle.gds_block.specs.Block.{tn_of}
 use Rattle.gds_block.specs.Fields.{u32_at}
@@ -17,7 +16,6 @@ use Rattle.gds_tree.specs.Lawful.{IsLawful}
 use Rattle.gds_tree.specs.RightBlock.{IsDueLevel}
 use Rattle.gds_tree.proofs.FaultlessLemmas.{written_entries}
 use Rattle.gds_tree.proofs.KeepLemmas.{same_limits, lawful_kept}
-use Rattle.gds_file.specs.Maps.{has_block}
 use Rattle.gds_file.specs.Rewrite.{Rewrites}
 use Rattle.gds_file.specs.TakeLaws.{IsFree}
 use Rattle.gds_file.proofs.RewriteLemmas.{rewrite_keeps_header}

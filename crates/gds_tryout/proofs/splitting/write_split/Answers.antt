@@ -1,10 +1,8 @@
-use Rattle.std.proofs.Common.{◌≡◌, ◌≢◌, ℕ, ◌≤◌, ◌∙◌, [], ◌∷◌, sym, ap, subst, arith}
-use Rattle.gds_block.specs.Block.{tn_of}
-use Rattle.gds_header.specs.Fields.{fields_of, block_of}
+use Rattle.std.proofs.Common.{◌≡◌, ◌∙◌, [], ◌∷◌, sym, ap, arith}
+use Rattle.gds_header.specs.Fields.{fields_of}
 use Rattle.gds_pack.specs.Entry.{items}
-use Rattle.gds_pack.specs.Packed.{packed_size, block_bytes}
+use Rattle.gds_pack.specs.Packed.{block_bytes}
 use Rattle.gds_file.proofs.RewriteLemmas.{rewrites_compose}
-use Rattle.gds_tryout.specs.File.{IsFile}
 use Rattle.gds_tryout.specs.Split.{WritesSplit}
 use Rattle.gds_tryout.proofs.GlobalLemmas.{image_of}
 use Rattle.gds_tryout.proofs.WrittenLemmas.{file_stays, stays_there, written_split}
