@@ -1,0 +1,33 @@
+-- The place of a key among the entries of a packed block.
+use Rattle.std.specs.Prelude.{ℕ, ◌≡◌, ◌⊎◌, All, List, [], ◌∷◌, ◌++◌}
+use Rattle.std.specs.Bool.{OnTrue, OnFalse}
+use Rattle.gds_block.specs.Item.{Item}
+use Rattle.m_key.specs.Key.{Below}
+use Rattle.m_key.specs.KeyEnd.{shared}
+use Rattle.gds_pack.specs.Packed.{packed_size, key_behind, first_key}
+use Rattle.gds_search.specs.declared.place.Place.{Place}
+
+-- The first of these entries has this key.
+abbrev pub BeginsAt : List ℕ → List Item → Type 0
+BeginsAt key [] = ⊥
+BeginsAt key (i ∷ is) = i.key ≡ key
+
+-- The first of these entries, if there is one, is above this key. The star, which has no key, is above all keys.
+abbrev pub BeginsAbove : List ℕ → List Item → Type 0
+BeginsAbove key [] = Unit {0}
+BeginsAbove key (i ∷ is) = (i.key ≡ []) ⊎ Below key i.key
+
+-- The place of a key in the block with these entries: those of `before` are below the key, and the first of `behind`
+-- is at or above it.
+pub record IsPlaceFor (es : List Item) (key : List ℕ) (place : Place) (before behind : List Item) : Type 0 where
+  pub parts : es ≡ before ++ behind
+  pub offset : place.offset ≡ packed_size before
+  pub below : All (λ i. Below i.key key) before
+  pub equal : OnTrue place.is_equal (BeginsAt key behind)
+  pub above : OnFalse place.is_equal (BeginsAbove key behind)
+  pub shares : place.shared ≡ shared (key_behind [] before) key
+  pub next_shares : place.next_shared ≡ shared (first_key behind) key
+
+-- the same for some parting of the entries
+abbrev pub IsPlace : List Item → List ℕ → Place → Type 0
+IsPlace es key place = (before : List Item) × (behind : List Item) × IsPlaceFor es key place before behind
