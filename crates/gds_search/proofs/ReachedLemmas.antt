@@ -5,12 +5,12 @@ use Rattle.std.proofs.Common.{true, false, refl, sym, ◌∙◌, ap, subst, arit
 use Rattle.std.specs.Prelude.{All}
 use Rattle.std.proofs.lemmas.Bool.{cases_lt}
 use Rattle.std.proofs.lemmas.List.{append-nil}
-use Rattle.std.proofs.lemmas.List.Elements.{All-nil, All-cons, All-append}
+use Rattle.std.proofs.lemmas.List.Elements.{All-nil, All-cons, All-append, All-head, All-same}
 use Rattle.std.specs.Ordering.{nat_cmp, is_lt}
 use Rattle.std.specs.Cmp.Lexicographic.{slice_cmp}
 use Rattle.std.specs.declared.cmp.Ordering.TheVariants.{Less}
 use Rattle.gds_block.specs.Block.{level_of, used_of}
-use Rattle.gds_block.specs.Record.{Record, records_of, records_from}
+use Rattle.gds_block.specs.Record.{Record, StandsIn, records_of, records_from}
 use Rattle.gds_block.specs.Item.{Item}
 use Rattle.gds_block.proofs.RecordLemmas.{records_from-unique}
 use Rattle.m_key.specs.Key.{Below}
@@ -21,7 +21,7 @@ use Rattle.gds_pack.specs.Packable.{IsNext, AreLeaves, AreIndex, ArePackable}
 use Rattle.gds_pack.proofs.SizeLemmas.{records_size-append, key_behind-append}
 use Rattle.gds_pack.proofs.ReadLemmas.{IsBefore, neighbours, length-body, AreSized-packable, AreRecords-packed}
 use Rattle.gds_search.specs.PackedBlock.{IsPackedBlock}
-use Rattle.gds_search.specs.Place.{IsPlaceFor, IsPlace, BeginsAt, BeginsAbove}
+use Rattle.gds_search.specs.Place.{IsPlaceFor, IsPlace, IsWithin, BeginsAt, BeginsAbove}
 use Rattle.gds_search.specs.declared.place.Place.{Place}
 use Rattle.gds_search.proofs.OrderLemmas.{Stands, stands-above, stands-below, shared-stops, shared-itself}
 use Rattle.gds_search.proofs.BodyLemmas.{found, no_end, parted_above, parted_below}
@@ -74,6 +74,23 @@ IsReached-start block key height es q p = record {
   records = records_of-packed block height es p;
   shares = refl;
 }
+
+-- ---- any bytes
+
+-- the place at a record that stands in the block
+pub IsWithin-at : (block key : List ℕ) (left : List Record) (r : Record) (rs : List Record) (place : Place)
+    → All (StandsIn block) left → left ≡ r ∷ rs → place.offset ≡ r.offset → place.shared ≤ length key
+    → place.next_shared ≤ length key
+    → IsWithin block key place
+IsWithin-at block key left r rs place placed same at shared next =
+    let P = StandsIn block in
+    let stands = All-head P r rs (All-same P (r ∷ rs) left (sym same) placed) in
+    record {
+      behind_head = omega (arith, stands.behind_head, at);
+      used = omega (arith, stands.within, at);
+      shares = shared;
+      next_shares = next;
+    }
 
 -- ---- the next entry
 

@@ -1,8 +1,8 @@
-ghost use Rattle.std.specs.Prelude.{◌≡◌, ◌<◌, ◌↔◌, ℕ, List, length, IsTrue, IsOkAnd};
+ghost use Rattle.std.specs.Prelude.{◌≡◌, ◌<◌, ◌↔◌, ℕ, List, length, IsTrue, IsOkAnd, IfOk};
 ghost use Rattle.gds_block.specs.Item.{Item};
 ghost use Rattle.m_key.specs.KeyEnd.{IsKey};
 ghost use Rattle.gds_search.specs.PackedBlock.{IsPackedBlock};
-ghost use Rattle.gds_search.specs.Place.{IsPlace};
+ghost use Rattle.gds_search.specs.Place.{IsPlace, IsWithin};
 
 use crate::place::{Place, above};
 use gds_block::{BlockView, RecordView};
@@ -17,8 +17,9 @@ pub struct Unreadable;
 /// The place of a key in a packed block: where the first entry at or above the key stands. Of a block that isn't packed
 /// the answer is any place or `Unreadable`.
 pub fn search(block: &BlockView<'_>, key: &[u8]) -> Result<Place, Unreadable>
-    ensures { (height : ℕ) (es : List Item) → IsKey key.now → IsPackedBlock block.now height es
+    ensures found { (height : ℕ) (es : List Item) → IsKey key.now → IsPackedBlock block.now height es
         → IsOkAnd result (IsPlace es key.now) }
+    ensures within { IfOk result (IsWithin block.now key.now) }
 {
     let level = block.level();
     let used = block.used();
