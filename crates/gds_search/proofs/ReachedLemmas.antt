@@ -23,6 +23,7 @@ use Rattle.gds_pack.proofs.ReadLemmas.{IsBefore, neighbours, length-body, AreSiz
 use Rattle.gds_search.specs.PackedBlock.{IsPackedBlock}
 use Rattle.gds_search.specs.Place.{IsPlaceFor, IsPlace, IsWithin, BeginsAt, BeginsAbove}
 use Rattle.gds_search.specs.declared.place.Place.{Place}
+use Rattle.gds_search.proofs.PackedLemmas.{records_of-packed}
 use Rattle.gds_search.proofs.OrderLemmas.{Stands, stands-above, stands-below, shared-stops, shared-itself}
 use Rattle.gds_search.proofs.BodyLemmas.{found, no_end, parted_above, parted_below}
 
@@ -52,14 +53,6 @@ above-none (b ∷ key) p = refl
 may_follow : (height : ℕ) (es : List Item) → ArePackable height es → MayFollow height [] es
 may_follow zero es h = h
 may_follow (suc level) es h = h
-
-pub records_of-packed : (block : List ℕ) (height : ℕ) (es : List Item) → IsPackedBlock block height es
-    → records_of block ≡ packed_records 16 [] es
-records_of-packed block height es p =
-    let small = p.is_block.within in
-    (λ k. records_from (p.level k) 16 (p.records k))
-    ∙ sym (records_from-unique height 16 _ (packed_records 16 [] es)
-    (AreRecords-packed height 16 [] es (AreSized-packable height es p.packable (omega (arith, small, p.room, p.used)))))
 
 pub IsReached-start : (block key : List ℕ) (height : ℕ) (es : List Item) → IsKey key → IsPackedBlock block height es
     → IsReached es key height 0 (records_of block)
