@@ -1,5 +1,5 @@
 -- The place of a key among the entries of a packed block.
-use Rattle.std.specs.Prelude.{ℕ, ◌≡◌, ◌≤◌, ◌⊎◌, All, List, [], ◌∷◌, ◌++◌, length}
+use Rattle.std.specs.Prelude.{ℕ, ◌≡◌, ◌≢◌, ◌≤◌, ◌⊎◌, All, List, [], ◌∷◌, ◌++◌, length}
 use Rattle.std.specs.Bool.{OnTrue, OnFalse}
 use Rattle.gds_block.specs.Block.{used_of}
 use Rattle.gds_block.specs.Item.{Item}
@@ -8,12 +8,16 @@ use Rattle.m_key.specs.KeyEnd.{shared}
 use Rattle.gds_pack.specs.Packed.{packed_size, key_behind, first_key}
 use Rattle.gds_search.specs.declared.place.Place.{Place}
 
+-- The entry has a key, and that is below this one. The star, which has none, is above all keys.
+abbrev pub IsBelow : List ℕ → Item → Type 0
+IsBelow key i = (i.key ≢ []) × Below i.key key
+
 -- The first of these entries has this key.
 abbrev pub BeginsAt : List ℕ → List Item → Type 0
 BeginsAt key [] = ⊥
 BeginsAt key (i ∷ is) = i.key ≡ key
 
--- The first of these entries, if there is one, is above this key. The star, which has no key, is above all keys.
+-- The first of these entries, if there is one, is above this key: it is the star, or its key is.
 abbrev pub BeginsAbove : List ℕ → List Item → Type 0
 BeginsAbove key [] = Unit {0}
 BeginsAbove key (i ∷ is) = (i.key ≡ []) ⊎ Below key i.key
@@ -23,7 +27,7 @@ BeginsAbove key (i ∷ is) = (i.key ≡ []) ⊎ Below key i.key
 pub record IsPlaceFor (es : List Item) (key : List ℕ) (place : Place) (before behind : List Item) : Type 0 where
   pub parts : es ≡ before ++ behind
   pub offset : place.offset ≡ packed_size before
-  pub below : All (λ i. Below i.key key) before
+  pub below : All (IsBelow key) before
   pub equal : OnTrue place.is_equal (BeginsAt key behind)
   pub above : OnFalse place.is_equal (BeginsAbove key behind)
   pub shares : place.shared ≡ shared (key_behind [] before) key
