@@ -1,0 +1,2 @@
+pub mod PackedBlock
+pub mod Place
