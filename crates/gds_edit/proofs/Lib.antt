@@ -1,0 +1,4 @@
+pub mod PutLemmas
+pub mod PlaceLemmas
+pub mod EditLemmas
+pub mod ReplaceLemmas

@@ -1,0 +1,12 @@
+//! Edits of a packed block in place: one record is put in, taken out or given another rest, and the record behind it is
+//! packed anew. Nothing else is unpacked, and no memory is taken.
+#![tactic(auto)]
+
+mod error;
+mod reading;
+mod replacement;
+mod tail;
+
+pub use error::{EditError, Misplaced};
+pub use gds_search::Place;
+pub use replacement::replace;
