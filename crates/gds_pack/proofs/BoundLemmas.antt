@@ -45,11 +45,12 @@ packed_size-added a b i =
 
 -- ---- where keys rise
 
-record Heads (x y : ℕ) (a b : List ℕ) : Type 0 where
-  below : x ≤ y
-  tails : x ≡ y → slice_cmp nat_cmp a b ≡ Less
+-- What the first bytes of two rising keys say.
+pub record Heads (x y : ℕ) (a b : List ℕ) : Type 0 where
+  pub below : x ≤ y
+  pub tails : x ≡ y → slice_cmp nat_cmp a b ≡ Less
 
-heads_of : (x y : ℕ) (a b : List ℕ) (o : Ordering) → o ≡ nat_cmp x y → ordering_then o (slice_cmp nat_cmp a b) ≡ Less
+pub heads_of : (x y : ℕ) (a b : List ℕ) (o : Ordering) → o ≡ nat_cmp x y → ordering_then o (slice_cmp nat_cmp a b) ≡ Less
     → Heads x y a b
 heads_of x y a b Less e h = record { below = grind (arith, nat_tests); tails = λ s. absurd (grind (arith, nat_tests)) }
 heads_of x y a b Equal e h = record { below = grind (arith, nat_tests); tails = λ s. h }

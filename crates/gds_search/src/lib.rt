@@ -2,5 +2,7 @@
 #![tactic(auto)]
 
 mod place;
+mod scan;
 
 pub use place::Place;
+pub use scan::{Unreadable, search};
