@@ -1,6 +1,8 @@
 -- A block of which the tail was moved, and where a piece was put before the tail.
 use Rattle.std.proofs.Common.{ℕ, ◌≡◌, ◌+◌, ◌-◌, ◌≤◌, ◌<◌, ◌^◌, List, [], ◌∷◌, ◌++◌, length, get_or, take, drop, refl, sym}
 use Rattle.std.proofs.Common.{◌∙◌, ap, arith, append_assoc, length-append, length-take, length-drop, subst}
+use Rattle.std.specs.declared.result.Result.{Result}
+use Rattle.std.specs.declared.result.Result.TheVariants.{Err}
 use Rattle.std.proofs.lemmas.List.{take_at, drop_at, drop-drop, drop-take, take-take, get_or-take, append-nil}
 use Rattle.std.proofs.Math.Seq.{take-append-add}
 use Rattle.std.proofs.lemmas.List.{drop-append-le, take-append-drop}
@@ -13,7 +15,9 @@ use Rattle.gds_pack.specs.Packed.{records_size, records_bytes, packed_size, key_
 use Rattle.gds_pack.specs.Packable.{ArePackable}
 use Rattle.gds_pack.proofs.SizeLemmas.{length-records_bytes, records_size-append}
 use Rattle.gds_search.specs.PackedBlock.{IsPackedBlock}
-use Rattle.gds_edit.specs.Edited.{IsEdited, IsMoved}
+use Rattle.gds_edit.specs.Edited.{IsEdited, IsMoved, IsEdit}
+use Rattle.gds_edit.specs.declared.error.EditError.{EditError}
+use Rattle.gds_edit.specs.declared.error.EditError.TheVariants.{NoRoom}
 use Rattle.gds_edit.proofs.PutLemmas.{take-with_bytes_below, drop-with_bytes_from}
 use Rattle.gds_edit.proofs.PlaceLemmas.{left_before, left_behind, used_parts, records_bytes-append}
 
@@ -203,6 +207,7 @@ module _ (old moved new : List ℕ) (from to used : ℕ) (m : IsMoved old moved 
           covered = omega (arith, used_now);
           within = omega (arith, used_now, long_now, m.fits);
         };
+        room = omega (arith, long_now, packed.room);
         level = byte_in_front new old 3 (omega arith) first_now ∙ packed.level;
         used = used_now ∙ size_now;
         records = ap (λ k. drop 16 (take k new)) used_now ∙ records_now;
@@ -229,3 +234,10 @@ kept_bytes old moved from to used m i n behind before inside =
     ∙ ap (λ k. take n (drop k (take to xs))) (sym whole)
     ∙ ap (take n) (sym (drop-drop (i - 8) 8 (take to xs))) in
     part moved ∙ ap (λ xs. take n (drop (i - 8) xs)) m.front ∙ sym (part old) ∙ sym (take_in_front old used i n inside)
+
+-- ---- the answer
+
+pub IsEdit-refused : (old new : List ℕ) (height : ℕ) (es : List Item) (result : Result (Unit {0}) EditError)
+    (e : EditError) → result ≡ Err e → e ≡ NoRoom → length old < packed_size es → IsEdit old new height es result
+IsEdit-refused old new height es result e is full h =
+    subst (IsEdit old new height es) (sym is) (record { done = tt; full = (full, h) })

@@ -66,7 +66,7 @@ record_bytes-behind previous i tail n h =
     ∙ ap (λ xs. xs ++ (i.rest ++ tail)) (drop-drop n s i.key)
 
 module _ (block : List ℕ) (height : ℕ) (a b : List Item) (i : Item)
-    (packed : IsPackedBlock block height (a ++ i ∷ b)) (short : length block ≤ 65024) where
+    (packed : IsPackedBlock block height (a ++ i ∷ b)) where
   -- an entry's record stands at its place
   pub stands_here : drop (packed_size a) (take (used_of block) block)
       ≡ record_bytes (key_behind [] a) i ++ records_bytes i.key b
@@ -75,8 +75,8 @@ module _ (block : List ℕ) (height : ℕ) (a b : List Item) (i : Item)
   pub ends_here : packed_size a + record_size (key_behind [] a) i + records_size i.key b ≡ used_of block
   ends_here = omega (arith, used_parts block height a (i ∷ b) packed)
 
-  within : used_of block ≤ length block
-  within = packed.is_block.within
+  within : (used_of block ≤ length block) × (length block ≤ 65024)
+  within = (packed.is_block.within, packed.room)
 
   pub size_here : u16_at block (packed_size a) ≡ record_size (key_behind [] a) i
   size_here =

@@ -17,7 +17,7 @@ use gds_search::Place;
 /// Of a packed block the answer is `NoRoom` exactly where the entries don't fit.
 pub fn replace(block: &mut [u8], place: &Place, rest: &[u8]) -> Result<(), EditError>
     ensures replaced { (height : ℕ) (key : List ℕ) (es a b : List Item) (e : Item) → IsPackedBlock block.old height es
-        → IsPlaceFor es key place.now a (e ∷ b) → HasKeyOrIsStar key e → length block.old ≤ 65024
+        → IsPlaceFor es key place.now a (e ∷ b) → HasKeyOrIsStar key e
         → ArePackable height (a ++ record e { rest = rest.now } ∷ b)
         → IsEdit block.old block.new height (a ++ record e { rest = rest.now } ∷ b) result }
     ensures kept { OnErr result (block.new ≡ block.old) }
