@@ -2,3 +2,4 @@ pub mod PutLemmas
 pub mod PlaceLemmas
 pub mod EditLemmas
 pub mod ReplaceLemmas
+pub mod InsertLemmas

@@ -3,10 +3,13 @@
 #![tactic(auto)]
 
 mod error;
+mod insertion;
 mod reading;
+mod record;
 mod replacement;
 mod tail;
 
 pub use error::{EditError, Misplaced};
 pub use gds_search::Place;
+pub use insertion::insert;
 pub use replacement::replace;

@@ -1,19 +1,13 @@
-ghost use Rattle.std.specs.Prelude.{◌≡◌, ◌≤◌, ◌+◌, length, SomeIff};
+ghost use Rattle.std.specs.Prelude.{◌≡◌, ◌+◌, ◌≤◌, length, SomeIff};
 ghost use Rattle.gds_block.specs.Block.{used_of};
 ghost use Rattle.gds_block.specs.Fields.{u16_at};
 ghost use Rattle.gds_edit.specs.Reading.{IsEditable, StandsAt};
 
+use crate::record::RecordHead;
 use gds_block::{u16_at, u32_at};
 
 /// How long a block of a file may be.
 const LONGEST: usize = 65024;
-
-/// What stands before the body of a record.
-#[derive(Clone, Copy)]
-pub(crate) struct RecordHead {
-    pub size: usize,
-    pub count: usize,
-}
 
 // The used count of a block, if it covers the head and lies within the bytes, which are no more than a block may have.
 pub(crate) fn used_count(block: &[u8]) -> Option<usize>

@@ -1,4 +1,4 @@
-ghost use Rattle.std.specs.Prelude.{◌≡◌, ◌≤◌, ◌+◌, ◌-◌, ◌++◌, ◌∷◌, ℕ, List, length, OnErr, IfSome, IfNone};
+ghost use Rattle.std.specs.Prelude.{◌≡◌, ◌≤◌, ◌+◌, ◌-◌, ◌++◌, ◌∷◌, ℕ, List, OnErr};
 ghost use Rattle.gds_block.specs.Item.{Item};
 ghost use Rattle.gds_pack.specs.Packable.{ArePackable};
 ghost use Rattle.gds_search.specs.PackedBlock.{IsPackedBlock};
@@ -6,7 +6,7 @@ ghost use Rattle.gds_search.specs.Place.{IsPlaceFor};
 ghost use Rattle.gds_edit.specs.Edited.{HasKeyOrIsStar, IsEdit};
 
 use crate::error::EditError;
-use crate::reading::{RecordHead, record_head, used_count};
+use crate::reading::{record_head, used_count};
 use crate::tail::move_tail;
 use gds_block::{put_bytes, put_u16};
 use gds_search::Place;
@@ -29,7 +29,7 @@ pub fn replace(block: &mut [u8], place: &Place, rest: &[u8]) -> Result<(), EditE
     let Some(head) = record_head(block, at, used) else {
         return Err(EditError::Misplaced);
     };
-    let Some(key) = key_part(head, place.next_shared) else {
+    let Some(key) = head.key_part(place.next_shared) else {
         return Err(EditError::Misplaced);
     };
     let start = at + 4 + key;
@@ -38,18 +38,4 @@ pub fn replace(block: &mut [u8], place: &Place, rest: &[u8]) -> Result<(), EditE
     put_u16(block, at, (end - at) as u16);
     put_bytes(block, start, rest);
     Ok(())
-}
-
-// How many bytes of a record belong to its key, where that has so many with those that are left out.
-fn key_part(head: RecordHead, key: usize) -> Option<usize>
-    requires { 4 ≤ head.size }
-    ensures part { IfSome result (λ n. (head.count + n ≡ key) × (4 + n ≤ head.size)) }
-    ensures none { IfNone result (head.count ≤ key → 4 + (key - head.count) ≤ head.size → ⊥) }
-{
-    let part = key.checked_sub(head.count)?;
-    if part <= head.size - 4 {
-        Some(part)
-    } else {
-        None
-    }
 }
