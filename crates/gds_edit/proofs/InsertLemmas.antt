@@ -1,9 +1,7 @@
 -- An entry's record put before another's.
 use Rattle.std.proofs.Common.{ℕ, zero, suc, ◌≡◌, ◌+◌, ◌-◌, ◌≤◌, ◌<◌, ◌^◌, min, List, [], ◌∷◌, ◌++◌, length, take, drop, refl, sym}
-use Rattle.std.proofs.Common.{inl, inr, ◌∙◌, ap, subst, arith, append_assoc, length-append, length-take, length-drop}
-use Rattle.std.specs.Prelude.{nat_eq}
+use Rattle.std.proofs.Common.{◌∙◌, ap, subst, arith, append_assoc, length-append, length-take, length-drop}
 use Rattle.std.specs.declared.result.Result.{Result}
-use Rattle.std.proofs.lemmas.Bool.{cases_order, eq-eqb, ne_eqb, cond-true, cond-false}
 use Rattle.std.proofs.lemmas.List.{drop_at, drop-drop, drop_all, append-nil}
 use Rattle.gds_block.specs.Block.{used_of}
 use Rattle.gds_block.specs.Fields.{u16_at, u16_bytes, with_bytes}
@@ -24,6 +22,7 @@ use Rattle.gds_edit.specs.declared.error.EditError.{EditError}
 use Rattle.gds_edit.specs.Inserted.{IsRecordFor, IsHeadFor}
 use Rattle.gds_edit.specs.declared.record.RecordHead.{RecordHead}
 use Rattle.gds_edit.specs.declared.record.NewRecord.{NewRecord}
+use Rattle.gds_edit.proofs.SharedLemmas.{shared-turned}
 use Rattle.gds_edit.proofs.PutLemmas.{with_bytes-then}
 use Rattle.gds_edit.proofs.PlaceLemmas.{record_bytes-parts, record_bytes-behind, stands_here, ends_here, used_parts}
 use Rattle.gds_edit.proofs.PlaceLemmas.{stands, size_here, count_here}
@@ -110,28 +109,6 @@ module _ (old : List ℕ) (height : ℕ) (a b : List Item) (e i : Item) (packed 
       ∙ ap (λ xs. one ++ xs) (sym (record_bytes-parts e.key i tail)) in
       IsEdited-put old moved new (at + 4 + more) to used m (one ++ two) at (omega arith)
       (omega (arith, length-append one two)) written height a (i ∷ b) (e ∷ i ∷ b) packed place all packable same
-
--- ---- what is asked of `insert`
-
--- What two keys share doesn't depend on their order.
-shared-turned : (a b : List ℕ) → shared a b ≡ shared b a
-shared-turned [] [] = refl
-shared-turned [] (y ∷ b) = refl
-shared-turned (x ∷ a) [] = refl
-shared-turned (x ∷ a) (y ∷ b) =
-    elim (cases_order x y) [
-      | inl e ↦
-          omega (
-            arith,
-            shared-turned a b,
-            cond-true (nat_eq x y) (1 + shared a b) 0 (eq-eqb x y e),
-            cond-true (nat_eq y x) (1 + shared b a) 0 (eq-eqb y x (sym e)),
-          )
-      | inr d ↦
-          let ne : x ≡ y → ⊥ = λ e. elim d [ inl l ↦ omega (arith, l, e) | inr l ↦ omega (arith, l, e) ] in
-          cond-false (nat_eq x y) (1 + shared a b) 0 (ne_eqb x y ne)
-          ∙ sym (cond-false (nat_eq y x) (1 + shared b a) 0 (ne_eqb y x (λ e. ne (sym e))))
-    ]
 
 leaf_key : (p : List ℕ) (a b : List Item) (i : Item) → AreLeaves p (a ++ i ∷ b) → length i.key ≤ 255
 leaf_key p [] b i h = h.0.is_key.short

@@ -1,3 +1,4 @@
+pub mod SharedLemmas
 pub mod PutLemmas
 pub mod PlaceLemmas
 pub mod EditLemmas

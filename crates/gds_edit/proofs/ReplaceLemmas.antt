@@ -1,8 +1,6 @@
 -- An entry's rest in place of another.
 use Rattle.std.proofs.Common.{ℕ, zero, suc, ◌≡◌, ◌+◌, ◌-◌, ◌≤◌, ◌<◌, ◌^◌, min, List, [], ◌∷◌, ◌++◌, length, take, drop, refl, sym}
 use Rattle.std.proofs.Common.{inl, inr, ◌⊎◌, ◌∙◌, ap, subst, arith, append_assoc, length-append, length-take, length-drop}
-use Rattle.std.specs.Prelude.{nat_eq}
-use Rattle.std.proofs.lemmas.Bool.{cond-true, eq-eqb}
 use Rattle.std.proofs.lemmas.List.{take_at, drop_at, drop-drop}
 use Rattle.gds_block.specs.Block.{used_of}
 use Rattle.gds_block.specs.Fields.{u16_at, u16_bytes, with_bytes}
@@ -16,16 +14,12 @@ use Rattle.gds_pack.proofs.SizeLemmas.{length-record_bytes, records_size-append}
 use Rattle.gds_search.specs.PackedBlock.{IsPackedBlock}
 use Rattle.gds_search.specs.Place.{IsPlaceFor}
 use Rattle.gds_search.specs.declared.place.Place.{Place}
+use Rattle.gds_search.proofs.OrderLemmas.{shared-itself}
 use Rattle.gds_edit.specs.Reading.{StandsAt}
 use Rattle.gds_edit.specs.Edited.{IsEdited, IsMoved, HasKeyOrIsStar}
 use Rattle.gds_edit.proofs.PutLemmas.{with_bytes-then, with_bytes-kept}
 use Rattle.gds_edit.proofs.PlaceLemmas.{record_bytes-parts, stands, stands_here, ends_here, size_here, count_here}
 use Rattle.gds_edit.proofs.EditLemmas.{IsEdited-put, kept_bytes}
-
-shared-itself : (a : List ℕ) → shared a a ≡ length a
-shared-itself [] = refl
-shared-itself (x ∷ a) =
-    omega (arith, shared-itself a, cond-true (nat_eq x x) (1 + shared a a) 0 (eq-eqb x x refl))
 
 -- The place tells how long the entry's key is.
 pub length-own_key : (key : List ℕ) (e : Item) → HasKeyOrIsStar key e → shared e.key key ≡ length e.key
