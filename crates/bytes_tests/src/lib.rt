@@ -10,4 +10,6 @@ mod maps;
 #[cfg(test)]
 mod packs;
 #[cfg(test)]
+mod places;
+#[cfg(test)]
 mod small_file;

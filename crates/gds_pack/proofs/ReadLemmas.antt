@@ -261,7 +261,7 @@ module _ (is : List Item) (level tn room : ℕ) (fits : packed_size is ≤ room)
   unfolding block_bytes u16_bytes u32_bytes u64_bytes
   behind_head = refl
 
-  bytes_left-block_bytes : bytes_left (block_bytes is level tn room) 16 ≡ records_bytes [] is
+  pub bytes_left-block_bytes : bytes_left (block_bytes is level tn room) 16 ≡ records_bytes [] is
   bytes_left-block_bytes =
       let block = block_bytes is level tn room in
       let size = records_size [] is in

@@ -1,3 +1,4 @@
+pub mod PackedLemmas
 pub mod OrderLemmas
 pub mod BodyLemmas
 pub mod ReachedLemmas

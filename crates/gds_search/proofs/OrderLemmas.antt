@@ -132,3 +132,7 @@ shared-stops (x ∷ a) (y ∷ b) (suc n) s h k e =
           let ne : x ≡ y → ⊥ = λ f. elim d [ inl u ↦ omega (arith, u, f) | inr u ↦ omega (arith, u, f) ] in
           absurd (omega (arith, s, shared-heads x y a b ne))
     ]
+
+pub shared-itself : (a : List ℕ) → shared a a ≡ length a
+shared-itself [] = refl
+shared-itself (x ∷ a) = shared-tails x x a a refl ∙ omega (arith, shared-itself a)

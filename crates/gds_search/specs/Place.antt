@@ -1,6 +1,7 @@
 -- The place of a key among the entries of a packed block.
-use Rattle.std.specs.Prelude.{ℕ, ◌≡◌, ◌⊎◌, All, List, [], ◌∷◌, ◌++◌}
+use Rattle.std.specs.Prelude.{ℕ, ◌≡◌, ◌≤◌, ◌⊎◌, All, List, [], ◌∷◌, ◌++◌, length}
 use Rattle.std.specs.Bool.{OnTrue, OnFalse}
+use Rattle.gds_block.specs.Block.{used_of}
 use Rattle.gds_block.specs.Item.{Item}
 use Rattle.m_key.specs.Key.{Below}
 use Rattle.m_key.specs.KeyEnd.{shared}
@@ -31,3 +32,10 @@ pub record IsPlaceFor (es : List Item) (key : List ℕ) (place : Place) (before 
 -- the same for some parting of the entries
 abbrev pub IsPlace : List Item → List ℕ → Place → Type 0
 IsPlace es key place = (before : List Item) × (behind : List Item) × IsPlaceFor es key place before behind
+
+-- The place lies behind the head of a block and within its used bytes, and the key shares no more bytes than it has.
+pub record IsWithin (block key : List ℕ) (place : Place) : Type 0 where
+  pub behind_head : 16 ≤ place.offset
+  pub used : place.offset ≤ used_of block
+  pub shares : place.shared ≤ length key
+  pub next_shares : place.next_shared ≤ length key

@@ -1,8 +1,10 @@
 //! The search for a key in a packed block, which reads the records where they stand.
 #![tactic(auto)]
 
+mod laws;
 mod place;
 mod scan;
 
+pub use laws::packed_blocks;
 pub use place::Place;
 pub use scan::{Unreadable, search};

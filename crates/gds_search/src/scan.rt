@@ -1,11 +1,11 @@
-ghost use Rattle.std.specs.Prelude.{ℕ, List, IsOkAnd};
+ghost use Rattle.std.specs.Prelude.{◌≡◌, ◌<◌, ◌↔◌, ℕ, List, length, IsTrue, IsOkAnd, IfOk};
 ghost use Rattle.gds_block.specs.Item.{Item};
 ghost use Rattle.m_key.specs.KeyEnd.{IsKey};
 ghost use Rattle.gds_search.specs.PackedBlock.{IsPackedBlock};
-ghost use Rattle.gds_search.specs.Place.{IsPlace};
+ghost use Rattle.gds_search.specs.Place.{IsPlace, IsWithin};
 
 use crate::place::{Place, above};
-use gds_block::BlockView;
+use gds_block::{BlockView, RecordView};
 use m_key::shared_len;
 use thiserror::Error;
 
@@ -17,26 +17,27 @@ pub struct Unreadable;
 /// The place of a key in a packed block: where the first entry at or above the key stands. Of a block that isn't packed
 /// the answer is any place or `Unreadable`.
 pub fn search(block: &BlockView<'_>, key: &[u8]) -> Result<Place, Unreadable>
-    ensures { (height : ℕ) (es : List Item) → IsKey key.now → IsPackedBlock block.now height es
+    ensures found { (height : ℕ) (es : List Item) → IsKey key.now → IsPackedBlock block.now height es
         → IsOkAnd result (IsPlace es key.now) }
+    ensures within { IfOk result (IsWithin block.now key.now) }
 {
-    let is_index = block.level() > 0;
+    let level = block.level();
     let used = block.used();
     let mut shared = 0;
-    for record in block.records() {
-        let count = usize::from(record.count);
+    for view in block.records() {
+        let count = usize::from(view.count);
         if count > shared {
             continue;
         }
-        let offset = record.offset as usize;
+        let offset = view.offset as usize;
         if count < shared {
             return Ok(above(offset, shared, count));
         }
-        if is_index && record.body.len() == 4 {
+        if is_star(view, level) {
             return Ok(above(offset, shared, 0));
         }
         let rest = &key[shared..];
-        let same = shared_len(record.body, rest);
+        let same = shared_len(view.body, rest);
         if same == rest.len() {
             return Ok(Place {
                 offset,
@@ -45,13 +46,21 @@ pub fn search(block: &BlockView<'_>, key: &[u8]) -> Result<Place, Unreadable>
                 next_shared: key.len(),
             });
         }
-        if same == record.body.len() {
+        if same == view.body.len() {
             return Err(Unreadable);
         }
-        if record.body[same] > rest[same] {
+        if view.body[same] > rest[same] {
             return Ok(above(offset, shared, shared + same));
         }
         shared += same;
     }
     Ok(above(used as usize, shared, 0))
+}
+
+// Whether a record of a packed block of this level is the star: in an index block each other record has a byte of its
+// key beside the pointer.
+fn is_star(view: RecordView<'_>, level: u8) -> bool
+    ensures { IsTrue result ↔ ((0 < level) × (length view.entry.body.now ≡ 4)) }
+{
+    level > 0 && view.body.len() == 4
 }

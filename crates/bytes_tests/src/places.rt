@@ -1,0 +1,114 @@
+use fixtures::{FixtureError, block, star};
+use gds_block::BlockView;
+use gds_search::{Place, Unreadable, search};
+use std::process::Abort;
+use std::test::Fail;
+
+/// The records of `^A(1)`, `^A(1,1)`, `^A(1,2)` and `^B`, at 16, 27, 36 and 44. They end at 52.
+fn nested() -> Result<[u8; 64], FixtureError> {
+    block(
+        0,
+        1,
+        &[
+            (0, b"A\0\xBF\x11\0\0a"),
+            (5, b"\xBF\x11\0\0b"),
+            (6, b"\x21\0\0c"),
+            (0, b"B\0\0d"),
+        ],
+    )
+}
+
+/// The records of `^A` to block 3, `^A(1)` to block 4 and the star to block 65, at 16, 27 and 39. They end at 47.
+fn pointers() -> Result<[u8; 64], FixtureError> {
+    block(
+        1,
+        1,
+        &[
+            (0, b"A\0\0\x03\0\0\0"),
+            (2, b"\xBF\x11\0\0\x04\0\0\0"),
+            (0, b"A\0\0\0"),
+        ],
+    )
+}
+
+/// A key, and what is wanted of its place.
+type Row<'a> = (&'a str, &'a [u8], usize, bool, usize, usize);
+
+fn check_place(rt: &impl Abort, bytes: &[u8], row: Row<'_>) -> Result<(), Fail> {
+    let (label, key, offset, is_equal, shared, next_shared) = row;
+    let block = BlockView::new(bytes).ok_or("a block")?;
+    let place = search(&block, key).map_err(|_| "a place")?;
+    let wanted = Place {
+        offset,
+        is_equal,
+        shared,
+        next_shared,
+    };
+    assert_eq!(rt; place, wanted, "{label}");
+    Ok(())
+}
+
+#[test]
+fn places_of_keys_in_a_leaf(rt: HostRuntime) -> Result<(), Fail> {
+    let rows: [Row<'_>; 12] = [
+        ("below all", b"%\0\0", 16, false, 0, 0),
+        ("a key that the first begins with", b"A\0\0", 16, false, 0, 2),
+        ("the first", b"A\0\xBF\x11\0\0", 16, true, 0, 6),
+        ("behind it", b"A\0\xBF\x11\0\x80\0\0", 27, false, 5, 5),
+        ("the second", b"A\0\xBF\x11\0\xBF\x11\0\0", 27, true, 5, 9),
+        ("below the second", b"A\0\xBF\x11\0\xBF\x11\0\xFFx\0\0", 36, false, 8, 6),
+        ("the third", b"A\0\xBF\x11\0\xBF\x21\0\0", 36, true, 6, 9),
+        ("behind the third", b"A\0\xBF\x11\0\xBF\x31\0\0", 44, false, 6, 0),
+        ("past two counts", b"A\0\xBF\x21\0\0", 44, false, 3, 0),
+        ("past one count", b"A\0\xBF\x11\0\xFFx\0\0", 44, false, 5, 0),
+        ("the last", b"B\0\0", 44, true, 0, 3),
+        ("above all", b"B\0\xBF\x11\0\0", 52, false, 2, 0),
+    ];
+    let bytes = nested()?;
+    for row in rows {
+        check_place(&rt, &bytes, row)?;
+    }
+    Ok(())
+}
+
+#[test]
+fn places_of_keys_in_an_index_block(rt: HostRuntime) -> Result<(), Fail> {
+    let rows: [Row<'_>; 6] = [
+        ("below all", b"%\0\0", 16, false, 0, 0),
+        ("the first", b"A\0\0", 16, true, 0, 3),
+        ("behind the first", b"A\0\x80\0\0", 27, false, 2, 2),
+        ("the second", b"A\0\xBF\x11\0\0", 27, true, 2, 6),
+        ("at the star", b"A\0\xBF\x21\0\0", 39, false, 3, 0),
+        ("the star with none shared", b"B\0\0", 39, false, 0, 0),
+    ];
+    let bytes = pointers()?;
+    for row in rows {
+        check_place(&rt, &bytes, row)?;
+    }
+    Ok(())
+}
+
+#[test]
+fn a_star_has_no_key(rt: HostRuntime) -> Result<(), Fail> {
+    // Its pointer has the bytes 41 00 00 00.
+    let bytes: [u8; 24] = star(1, 1, 65)?;
+    check_place(&rt, &bytes, ("a star alone", b"A\0\0", 16, false, 0, 0))?;
+    // At level 0 the same body is `^A` with a value of one byte.
+    let bytes: [u8; 24] = star(0, 1, 65)?;
+    check_place(&rt, &bytes, ("a leaf", b"A\0\0", 16, true, 0, 3))
+}
+
+#[test]
+fn a_block_without_records_has_a_place(rt: HostRuntime) -> Result<(), Fail> {
+    let bytes: [u8; 16] = block(0, 1, &[])?;
+    check_place(&rt, &bytes, ("no record", b"A\0\0", 16, false, 0, 0))
+}
+
+#[test]
+fn a_record_within_the_key_is_unreadable(rt: HostRuntime) -> Result<(), Fail> {
+    let bytes: [u8; 32] = block(0, 1, &[(0, b"A\0")])?;
+    let block = BlockView::new(&bytes).ok_or("a block")?;
+    let found = search(&block, b"A\0\xBF\x11\0\0");
+    assert!(rt; matches!(found, Err(Unreadable)));
+    Ok(())
+}
