@@ -4,3 +4,4 @@ pub mod PlaceLemmas
 pub mod EditLemmas
 pub mod ReplaceLemmas
 pub mod InsertLemmas
+pub mod RemoveLemmas

@@ -12,7 +12,7 @@ ghost use Rattle.gds_edit.specs.Inserted.{IsRecordFor, IsHeadFor};
 use crate::error::EditError;
 use crate::reading::{record_head, used_count};
 use crate::record::{NewRecord, RecordHead};
-use crate::tail::move_tail;
+use crate::tail::push_tail;
 use gds_search::Place;
 
 /// Puts an entry with a key and a rest in at the place of the key.
@@ -78,7 +78,7 @@ fn insert_last(block: &mut [u8], used: usize, fresh: NewRecord<'_>) -> Result<()
     ensures kept { OnErr result (block.new ≡ block.old) }
 {
     let end = used.saturating_add(fresh.size());
-    move_tail(block, used, end, used)?;
+    push_tail(block, used, end, used)?;
     fresh.put(block, used);
     Ok(())
 }
@@ -107,7 +107,7 @@ fn insert_before(
     ensures kept { OnErr result (block.new ≡ block.old) }
 {
     let end = at.saturating_add(fresh.size());
-    move_tail(block, at + 4 + more, end.saturating_add(4), used)?;
+    push_tail(block, at + 4 + more, end.saturating_add(4), used)?;
     fresh.put(block, at);
     let head = RecordHead {
         size: next.size - more,

@@ -6,10 +6,12 @@ mod error;
 mod insertion;
 mod reading;
 mod record;
+mod removal;
 mod replacement;
 mod tail;
 
 pub use error::{EditError, Misplaced};
 pub use gds_search::Place;
 pub use insertion::insert;
+pub use removal::remove;
 pub use replacement::replace;

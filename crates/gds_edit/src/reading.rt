@@ -1,4 +1,4 @@
-ghost use Rattle.std.specs.Prelude.{◌≡◌, ◌+◌, ◌≤◌, length, SomeIff};
+ghost use Rattle.std.specs.Prelude.{◌≡◌, ◌+◌, ◌<◌, ◌≤◌, ◌^◌, length, IfSome, SomeIff};
 ghost use Rattle.gds_block.specs.Block.{used_of};
 ghost use Rattle.gds_block.specs.Fields.{u16_at};
 ghost use Rattle.gds_edit.specs.Reading.{IsEditable, StandsAt};
@@ -26,8 +26,9 @@ pub(crate) fn used_count(block: &[u8]) -> Option<usize>
 // The head of the record at a place, if it is behind the block's head and the record ends within the used bytes.
 pub(crate) fn record_head(block: &[u8], at: usize, used: usize) -> Option<RecordHead>
     requires { used ≤ length block.now }
-    ensures { SomeIff result (StandsAt block.now at used)
+    ensures read { SomeIff result (StandsAt block.now at used)
         (record { size = u16_at block.now at; count = u16_at block.now (at + 2) }) }
+    ensures small { IfSome result (λ head. head.count < 2 ^ 16) }
 {
     if at < 16 {
         return None;

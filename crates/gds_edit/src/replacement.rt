@@ -7,7 +7,7 @@ ghost use Rattle.gds_edit.specs.Edited.{HasKeyOrIsStar, IsEdit};
 
 use crate::error::EditError;
 use crate::reading::{record_head, used_count};
-use crate::tail::move_tail;
+use crate::tail::push_tail;
 use gds_block::{put_bytes, put_u16};
 use gds_search::Place;
 
@@ -34,7 +34,7 @@ pub fn replace(block: &mut [u8], place: &Place, rest: &[u8]) -> Result<(), EditE
     };
     let start = at + 4 + key;
     let end = start.saturating_add(rest.len());
-    move_tail(block, at + head.size, end, used)?;
+    push_tail(block, at + head.size, end, used)?;
     put_u16(block, at, (end - at) as u16);
     put_bytes(block, start, rest);
     Ok(())

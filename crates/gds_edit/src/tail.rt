@@ -6,7 +6,20 @@ use crate::error::EditError;
 use gds_block::put_u32;
 
 // Moves the used bytes from one place on so that they begin at another, and writes where they end into the head.
-pub(crate) fn move_tail(
+pub(crate) fn move_tail(block: &mut [u8], from: usize, to: usize, used: usize)
+    requires behind_head { 16 ≤ to }
+    requires from { from ≤ used }
+    requires within { used ≤ length block.old }
+    requires short { length block.old ≤ 65024 }
+    requires fits { to + (used - from) ≤ length block.old }
+    ensures { IsMoved block.old block.new from to used }
+{
+    block.copy_within(from..used, to);
+    put_u32(block, 4, (to + (used - from)) as u32);
+}
+
+// The same, if the block has room.
+pub(crate) fn push_tail(
     block: &mut [u8],
     from: usize,
     to: usize,
@@ -20,11 +33,9 @@ pub(crate) fn move_tail(
     ensures kept { OnErr result (block.new ≡ block.old) }
     ensures full { IfErr result (λ e. (e ≡ NoRoom) × (length block.old < to + (used - from))) }
 {
-    let tail = used - from;
-    if to > block.len() - tail {
+    if to > block.len() - (used - from) {
         return Err(EditError::NoRoom);
     }
-    block.copy_within(from..used, to);
-    put_u32(block, 4, (to + tail) as u32);
+    move_tail(block, from, to, used);
     Ok(())
 }

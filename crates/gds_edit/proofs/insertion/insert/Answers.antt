@@ -23,7 +23,7 @@ pub returns-in_default-record_head-clause-inserted : goal.returns-in_default-rec
 returns-in_default-record_head-clause-inserted c =
     λ height es a b packed spot packable.
     let all = c.in-Some.ensures.1 in
-    absurd (c.in_default-record_head.ensures
+    absurd (c.in_default-record_head.ensures.read
     (subst (StandsAt c.args.block.now c.args.place.now.offset) (sym all)
     (entry_there c.args.block.now height es a c.args.key.now c.args.rest.now c.args.place.now packed b spot
     (λ e. c.if-place-used.false (e ∙ sym all)))))
@@ -32,7 +32,7 @@ pub returns-in_default-key_part-clause-inserted : goal.returns-in_default-key_pa
 returns-in_default-key_part-clause-inserted c =
     λ height es a b packed spot packable.
     let all = c.in-Some.ensures.1 in
-    let head = c.in-Some-record_head.ensures.1 in
+    let head = c.in-Some-record_head.ensures.read.1 in
     let more = more_there c.args.block.now height es a c.args.key.now c.args.rest.now c.args.place.now packed b spot
     packable (λ e. c.if-place-used.false (e ∙ sym all)) in
     absurd (c.in_default-key_part.ensures.none (omega (arith, more.0, ap (λ h. h.count) head))
@@ -42,7 +42,7 @@ pub returns-clause-inserted : goal.returns-clause-inserted
 returns-clause-inserted c =
     λ height es a b packed spot packable.
     let r = c.in-Some-new_record.ensures.some in
-    let head = c.in-Some-record_head.ensures.1 in
+    let head = c.in-Some-record_head.ensures.read.1 in
     before_there c.args.block.now height es a c.args.key.now c.args.rest.now c.args.place.now packed c.in-Some.used
     c.in-Some.ensures.1 _ _ c.in-Some-new_record.fresh c.in-Some-record_head.next c.in-Some-key_part.more
     (ap (λ h. h.size) head) (ap (λ h. h.count) head) c.in-Some-key_part.ensures.part.0 b spot packable

@@ -8,11 +8,11 @@ use Rattle.gds_edit.proofs.EditLemmas.{IsEdit-refused}
 use Rattle.gds_edit.proofs.InsertLemmas.{size-new, bytes-new, size_of_before, IsEdited-before}
 use Rattle.gds_edit.proofs.insertion.insert_before.Goals as goal
 
-pub returns-in_err-move_tail-clause-inserted : goal.returns-in_err-move_tail-clause-inserted
-returns-in_err-move_tail-clause-inserted c =
+pub returns-in_err-push_tail-clause-inserted : goal.returns-in_err-push_tail-clause-inserted
+returns-in_err-push_tail-clause-inserted c =
     λ height a b e n packed place all is head shares packable.
     let p = err_from_is_err_and c.from_residual.result c.from_residual.ensures.1 in
-    let full = c.in_err-move_tail.ensures.full in
+    let full = c.in_err-push_tail.ensures.full in
     let size = size-new _ e c.args.fresh is in
     let more = ap (λ k. k + c.args.more) (sym head.counted) ∙ shares in
     IsEdit-refused c.args.block.now _ height _ c.from_residual.result p.0 p.1 (p.2 ∙ full.0)
@@ -30,7 +30,7 @@ returns-in_err-move_tail-clause-inserted c =
 pub returns-clause-inserted : goal.returns-clause-inserted
 returns-clause-inserted c =
     λ height a b e n packed place all is head shares packable.
-    let m = c.in_ok-move_tail.ensures.moved in
+    let m = c.in_ok-push_tail.ensures.moved in
     let size = size-new _ e c.args.fresh is in
     let more = ap (λ k. k + c.args.more) (sym head.counted) ∙ shares in
     let p = key_behind [] a in
@@ -41,7 +41,7 @@ returns-clause-inserted c =
     record {
       done =
           IsEdited-before c.args.block.now height a b e n packed c.args.at c.args.used c.args.more place all more
-              c.move_tail.new.block c.put-2.new.out c.saturating_add.result end m
+              c.push_tail.new.block c.put-2.new.out c.saturating_add.result end m
               (omega (
                 arith,
                 size,
@@ -54,7 +54,7 @@ returns-clause-inserted c =
               (omega (arith, m.fits, c.saturating_add.ensures, c.requires.short))
               (c.put-2.ensures
               ∙ (λ k. with_bytes (c.put.ensures k) end (u16_bytes (sized k) ++ u16_bytes (shares k)))
-              ∙ ap (λ xs. with_bytes (with_bytes c.move_tail.new.block c.args.at xs) end
+              ∙ ap (λ xs. with_bytes (with_bytes c.push_tail.new.block c.args.at xs) end
               (u16_bytes (record_size e.key n) ++ u16_bytes (shared e.key n.key))) bytes)
               packable;
       full = tt;
