@@ -31,6 +31,12 @@ fn pointers() -> Result<[u8; 64], FixtureError> {
     )
 }
 
+/// The key of `^A(1,1,0)`.
+const CHILD: &[u8] = b"A\0\xBF\x11\0\xBF\x11\0\x80\0\0";
+
+/// The key of `^A(1,3)`.
+const NEXT: &[u8] = b"A\0\xBF\x11\0\xBF\x31\0\0";
+
 /// A key, and what is wanted of its place.
 type Row<'a> = (&'a str, &'a [u8], usize, bool, usize, usize);
 
@@ -52,17 +58,17 @@ fn check_place(rt: &impl Abort, bytes: &[u8], row: Row<'_>) -> Result<(), Fail> 
 fn places_of_keys_in_a_leaf(rt: HostRuntime) -> Result<(), Fail> {
     let rows: [Row<'_>; 12] = [
         ("below all", b"%\0\0", 16, false, 0, 0),
-        ("a key that the first begins with", b"A\0\0", 16, false, 0, 2),
-        ("the first", b"A\0\xBF\x11\0\0", 16, true, 0, 6),
-        ("behind it", b"A\0\xBF\x11\0\x80\0\0", 27, false, 5, 5),
-        ("the second", b"A\0\xBF\x11\0\xBF\x11\0\0", 27, true, 5, 9),
-        ("below the second", b"A\0\xBF\x11\0\xBF\x11\0\xFFx\0\0", 36, false, 8, 6),
-        ("the third", b"A\0\xBF\x11\0\xBF\x21\0\0", 36, true, 6, 9),
-        ("behind the third", b"A\0\xBF\x11\0\xBF\x31\0\0", 44, false, 6, 0),
-        ("past two counts", b"A\0\xBF\x21\0\0", 44, false, 3, 0),
-        ("past one count", b"A\0\xBF\x11\0\xFFx\0\0", 44, false, 5, 0),
-        ("the last", b"B\0\0", 44, true, 0, 3),
-        ("above all", b"B\0\xBF\x11\0\0", 52, false, 2, 0),
+        ("^A", b"A\0\0", 16, false, 0, 2),
+        ("^A(1)", b"A\0\xBF\x11\0\0", 16, true, 0, 6),
+        ("^A(1,0)", b"A\0\xBF\x11\0\x80\0\0", 27, false, 5, 5),
+        ("^A(1,1)", b"A\0\xBF\x11\0\xBF\x11\0\0", 27, true, 5, 9),
+        ("^A(1,1,0)", CHILD, 36, false, 8, 6),
+        ("^A(1,2)", b"A\0\xBF\x11\0\xBF\x21\0\0", 36, true, 6, 9),
+        ("^A(1,3)", NEXT, 44, false, 6, 0),
+        ("^A(2)", b"A\0\xBF\x21\0\0", 44, false, 3, 0),
+        ("^A(1,\"x\")", b"A\0\xBF\x11\0\xFFx\0\0", 44, false, 5, 0),
+        ("^B", b"B\0\0", 44, true, 0, 3),
+        ("^B(1)", b"B\0\xBF\x11\0\0", 52, false, 2, 0),
     ];
     let bytes = nested()?;
     for row in rows {
@@ -75,11 +81,11 @@ fn places_of_keys_in_a_leaf(rt: HostRuntime) -> Result<(), Fail> {
 fn places_of_keys_in_an_index_block(rt: HostRuntime) -> Result<(), Fail> {
     let rows: [Row<'_>; 6] = [
         ("below all", b"%\0\0", 16, false, 0, 0),
-        ("the first", b"A\0\0", 16, true, 0, 3),
-        ("behind the first", b"A\0\x80\0\0", 27, false, 2, 2),
-        ("the second", b"A\0\xBF\x11\0\0", 27, true, 2, 6),
-        ("at the star", b"A\0\xBF\x21\0\0", 39, false, 3, 0),
-        ("the star with none shared", b"B\0\0", 39, false, 0, 0),
+        ("^A", b"A\0\0", 16, true, 0, 3),
+        ("^A(0)", b"A\0\x80\0\0", 27, false, 2, 2),
+        ("^A(1)", b"A\0\xBF\x11\0\0", 27, true, 2, 6),
+        ("^A(2)", b"A\0\xBF\x21\0\0", 39, false, 3, 0),
+        ("^B", b"B\0\0", 39, false, 0, 0),
     ];
     let bytes = pointers()?;
     for row in rows {

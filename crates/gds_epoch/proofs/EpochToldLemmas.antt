@@ -95,13 +95,14 @@ tells_units f size units a b c so_far told =
     TellsOn-then a b c (λ x y. y ≡ f x) (λ x y. y ≡ with_units size units x)
     (λ x y. y ≡ with_units size units (f x)) (λ x y z is step. step ∙ ap (with_units size units) is) so_far told
 
+pub group_place : (size n : ℕ) (images : List Image) (units : List WaitingUnit) (x : Contents)
+    → IsReady size n images units x → 8 < length x.images
+group_place size n images units x ready = omega (arith, closed_long x.images ready.rest.closed)
+
 -- what the calls ask of what is told, and what is told at the end
 module _ (size n : ℕ) (images : List Image) (units : List WaitingUnit) (zero : Option Contents)
     (ready : (x : Contents) → zero ≡ Some x → IsReady size n images units x)
     (short : n < 2 ^ 63) (ends : gate_behind 8 images < 2 ^ 63) where
-  pub group_place : (x : Contents) → zero ≡ Some x → 8 < length x.images
-  group_place x tells = let closed = (ready x tells).rest.closed in omega (arith, closed_long x.images closed)
-
   module _ (one : Option Contents) (untold_one : zero ≡ None → one ≡ None)
       (told_one : TellsOn zero one (λ x y. y ≡ with_group n images x)) where
     pub gate_place : (y : Contents) → one ≡ Some y → 8 < length y.images

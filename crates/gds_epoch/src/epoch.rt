@@ -3,8 +3,6 @@ ghost use Rattle.std.specs.Option.{ForSome};
 ghost use Rattle.host_model.specs.Failures.{NeverFell, Rose};
 ghost use Rattle.host_model.specs.Told.{TellsOn};
 ghost use Rattle.host_model.specs.Moments.{EachLeft, HasCome};
-ghost use Rattle.gds_images.specs.Chain.{first_gate};
-ghost use Rattle.gds_images.specs.Group.{gate_behind};
 ghost use Rattle.gds_images.specs.Outcome.{IsAtRest};
 ghost use Rattle.gds_epoch.specs.State.{Rests};
 ghost use Rattle.gds_epoch.specs.Epoch.{FindsEither, IsDone, IsReady, StaysPatched, database_of};
@@ -33,7 +31,6 @@ pub fn write_epoch<H: Host>(
     epoch_length: u64,
 ) -> Result<(), HostFailed>
     requires short { epoch_length < 2 ^ 63 }
-    requires group { gate_behind first_gate images.old < 2 ^ 63 }
     requires ready { ForSome (H.told host.old) (IsReady block_size epoch_length images.old waiting.now.units) }
     requires rest { ForSome (H.told host.old) (λ c.
         EachLeft H.moment H.left_since host.old (IsAtRest (take epoch_length c.db))) }
@@ -50,6 +47,7 @@ pub fn write_epoch<H: Host>(
         (Rests (database_of (patched block_size waiting.now.units c.db)) c))) }
     ensures clock { H.moment host.new ≤ H.moment host.old + (3 * length waiting.now.units + 8) }
     ensures failures { NeverFell (H.failures host.old) (H.failures host.new) }
+    ensures failed { OnErr result (Rose (H.failures host.old).write (H.failures host.new).write) }
 {
     append_group(host, FIRST_GATE, images, epoch_length)?;
     open_gate(host, FIRST_GATE)?;

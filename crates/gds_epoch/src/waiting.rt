@@ -63,7 +63,8 @@ impl Waiting {
 
     /// The bytes of a unit, if it waits.
     pub fn find(&self, unit: u32) -> Option<&[u8]>
-        ensures { option_copied result ≡ waiting_bytes self.now.units unit }
+        ensures bytes { option_copied result ≡ waiting_bytes self.now.units unit }
+        ensures rising { IsRising self.now.units }
     {
         match self.search(unit) {
             Ok(at) => Some(&self.units[at].bytes),

@@ -20,7 +20,7 @@ use Rattle.gds_law.specs.Record.{is_below}
 use Rattle.gds_law.proofs.MembershipLemmas.{IsIn, in_left, in_right, in_either}
 use Rattle.gds_law.proofs.RisingLemmas.{Rising, rises, Rising-behind, decide_same, not_below_itself}
 use Rattle.gds_sound.specs.Sound.{Tree}
-use Rattle.gds_sound.proofs.CountLemmas.{flat_map_append}
+use Rattle.std.proofs.lemmas.Grind.{flat_map-append}
 use Rattle.gds_sound.proofs.OrderLemmas.{cmp, cmp_total, cmp_exact, key_cmp}
 use Rattle.gds_sound.proofs.PairLemmas.{place_key, items_rise, keys_are_nodes}
 use Rattle.gds_file.specs.Change.{items_in, item_at, SetsItem, is_within, items_outside}
@@ -217,10 +217,10 @@ items_outside_are_kill old new top top' globals globals' m p s st s' outside =
 
 pub items_parted : (left : List Tree) (tree : Tree) (right : List Tree)
     → items_in (left ++ tree ∷ right) ≡ items_in left ++ (tree.items ++ items_in right)
-items_parted left tree right = flat_map_append (λ (t : Tree). t.items) left (tree ∷ right)
+items_parted left tree right = flat_map-append (λ (t : Tree). t.items) left (tree ∷ right)
 
 pub items_joined : (left right : List Tree) → items_in (left ++ right) ≡ items_in left ++ items_in right
-items_joined left right = flat_map_append (λ (t : Tree). t.items) left right
+items_joined left right = flat_map-append (λ (t : Tree). t.items) left right
 
 middle : (left front : List Item) (item : Item) (back right : List Item)
     → left ++ ((front ++ item ∷ back) ++ right) ≡ (left ++ front) ++ item ∷ (back ++ right)

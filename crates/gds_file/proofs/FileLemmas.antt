@@ -5,7 +5,8 @@ use Rattle.gds_block.specs.Item.{Item}
 use Rattle.gds_law.specs.Visit.{directory_root}
 use Rattle.gds_law.proofs.MembershipLemmas.{IsIn, in_left, in_right}
 use Rattle.gds_sound.specs.Sound.{Tree}
-use Rattle.gds_sound.proofs.CountLemmas.{count, count_append, flat_map_append}
+use Rattle.std.proofs.lemmas.Grind.{flat_map-append}
+use Rattle.gds_sound.proofs.CountLemmas.{count, count_append}
 use Rattle.gds_sound.proofs.PathLemmas.{distinct_from_counts}
 use Rattle.gds_sound.proofs.SoundLemmas.{AreTrees, blocks_of}
 use Rattle.gds_file.specs.FileLaws.{NoTreeChanges, GlobalChanges, DirectoryChanges, EntryComes}
@@ -23,7 +24,7 @@ blocks_in trees = flat_map (λ tree. tree.blocks) trees
 count_in : (n : ℕ) (xs ys : List Tree)
     → count n (blocks_in (xs ++ ys)) ≡ count n (blocks_in xs) + count n (blocks_in ys)
 count_in n xs ys =
-    ap (count n) (flat_map_append (λ (tree : Tree). tree.blocks) xs ys) ∙ count_append n (blocks_in xs) (blocks_in ys)
+    ap (count n) (flat_map-append (λ (tree : Tree). tree.blocks) xs ys) ∙ count_append n (blocks_in xs) (blocks_in ys)
 
 pub trees_split : (image : List ℕ) (xs ys : List Item) (ts us : List Tree) → length xs ≡ length ts
     → AreTrees image (xs ++ ys) (ts ++ us) → AreTrees image xs ts × AreTrees image ys us

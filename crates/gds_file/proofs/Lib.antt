@@ -9,3 +9,4 @@ pub mod FileLemmas
 pub mod StampLemmas
 pub mod ChangeLemmas
 pub mod KillLemmas
+pub mod RewriteLemmas

@@ -43,7 +43,7 @@ trees_kept a b limits (e ∷ es) (t ∷ ts) zip keep = (
 
 module _ (a b : List ℕ) (fields : fields_of b ≡ fields_of a)
     (maps : (group : ℕ) → map_of b group ≡ map_of a group) where
-  has_free_same : (group : ℕ) → has_free_place b group ≡ has_free_place a group
+  pub has_free_same : (group : ℕ) → has_free_place b group ≡ has_free_place a group
   has_free_same group =
       λ i. nat_lt 0 (length (filter (λ k. is_present (fields i) group k && is_free_at (maps group i) k) places))
 

@@ -7,3 +7,5 @@ pub mod MapLaws
 pub mod ReshapeLaws
 pub mod FileLaws
 pub mod ChangeLaws
+pub mod Rewrite
+pub mod RewriteLaws

@@ -4,6 +4,7 @@ ghost use Rattle.gds_file.specs.FileLaws.{DirectoryChanges, EntryComes, EntryGoe
 ghost use Rattle.gds_file.specs.FileLaws.{StampKeepsTrees};
 ghost use Rattle.gds_file.specs.MapLaws.{MapsAreRightInTwoParts};
 ghost use Rattle.gds_file.specs.ReshapeLaws.{NothingReshapes, ReshapesCompose, ReshapesInAnyOrder, ReshapesWithMore};
+ghost use Rattle.gds_file.specs.RewriteLaws.{RewriteKeepsHeader, RewriteReshapes, RewriteStaysLawful, RewritesCompose};
 ghost use Rattle.gds_file.specs.SameLaws.{SameCarriesOver};
 
 /// A file that is the same as a sound one, but for what stands in blocks that were never used, is sound with the same
@@ -23,6 +24,15 @@ pub fn reshapes()
     ensures compose { ReshapesCompose }
     ensures with_more { ReshapesWithMore }
     ensures any_order { ReshapesInAnyOrder }
+{}
+
+/// Blocks of trees that are written anew in their places: header and maps stay as they are, and it is a change of the
+/// blocks to themselves.
+pub fn rewrites()
+    ensures header { RewriteKeepsHeader }
+    ensures lawful { RewriteStaysLawful }
+    ensures reshapes { RewriteReshapes }
+    ensures compose { RewritesCompose }
 {}
 
 /// A sound file stays sound where it only grows, where the tree of the directory or of one global becomes another sound

@@ -1,5 +1,5 @@
 -- Images of a group in memory, in their buffer.
-use Rattle.std.proofs.Common.{◌≡◌, ℕ, zero, suc, ◌+◌, ◌-◌, ◌*◌, ◌≤◌, List, [], ◌∷◌, ◌++◌, length, take, drop}
+use Rattle.std.proofs.Common.{◌≡◌, ℕ, zero, suc, ◌+◌, ◌-◌, ◌*◌, ◌^◌, ◌≤◌, List, [], ◌∷◌, ◌++◌, length, take, drop}
 use Rattle.std.proofs.Common.{replicate, refl, sym, ap, subst, ◌∙◌, arith, append_assoc, append-nil, length-append}
 use Rattle.std.proofs.Common.{length-take, length-drop}
 use Rattle.std.proofs.Common.{Bool, true, false, cond, eqb}
@@ -10,7 +10,7 @@ use Rattle.std.proofs.lemmas.List.{take-append-le, take_rest}
 use borrow.Rule.Slice.PartMut.{post_of, put_mid}
 use Rattle.std.proofs.lemmas.Slice.{drop-append-drop, take-put_mid}
 use Rattle.std.proofs.lemmas.List.Concat.{flat_map-append}
-use Rattle.std.proofs.lemmas.List.Elements.{All-head, All-tail, All-push}
+use Rattle.std.proofs.lemmas.List.Elements.{All-head, All-push, All-tail}
 use Rattle.gds_block.specs.Fields.{u32_at, u64_at, u32_bytes, u64_bytes, with_bytes}
 use Rattle.gds_block.proofs.FieldLemmas.{length-u32_bytes, length-u64_bytes, length-with_bytes, put_behind}
 use Rattle.gds_images.specs.Group.{HasFields, Image, IsBuffer, front_bytes, front_room, group_bytes, image_bytes}
@@ -19,7 +19,8 @@ use Rattle.gds_images.proofs.GroupLemmas.{image_at_is, image_behind, image_lengt
 use Rattle.gds_images.proofs.GroupLemmas.{length-images_bytes}
 
 -- What was put behind one another is found again.
-first_bytes : (image : Image) (rest : List ℕ) → take (length image.bytes) (drop 12 (image_bytes image ++ rest)) ≡ image.bytes
+first_bytes : (image : Image) (rest : List ℕ) → take (length image.bytes) (drop 12 (image_bytes image ++ rest))
+    ≡ image.bytes
 first_bytes image rest =
     let head = u64_bytes image.at ++ u32_bytes (length image.bytes) in
     let long : length head ≡ 12 = simp (length-append, length-u64_bytes, length-u32_bytes) in
@@ -64,9 +65,9 @@ buffer_count count bytes = length-images_in count (drop front_room bytes)
 
 -- A buffer of these images.
 pub buffer_of : (images : List Image) (count : ℕ) (bytes : List ℕ) → length images ≡ count → All HasFields images
-    → drop front_room bytes ≡ images_bytes images ++ 0 ∷ []
+    → drop front_room bytes ≡ images_bytes images ++ 0 ∷ [] → length bytes ≤ 2 ^ 62
     → (images_in count (drop front_room bytes) ≡ images) × IsBuffer count bytes
-buffer_of images count bytes many fields behind =
+buffer_of images count bytes many fields behind short =
     let found : images_in count (drop front_room bytes) ≡ images =
     ap (images_in count) behind ∙ ap (λ n. images_in n (images_bytes images ++ 0 ∷ [])) (sym many)
     ∙ images_found images (0 ∷ []) fields in (
@@ -74,6 +75,7 @@ buffer_of images count bytes many fields behind =
       record {
         images = behind ∙ ap (λ xs. images_bytes xs ++ 0 ∷ []) (sym found);
         fields = subst (λ xs. All HasFields xs) (sym found) fields;
+        short = short;
       },
     )
 
@@ -94,10 +96,11 @@ buffer_split count bytes is =
 
 -- One image more.
 pub buffer_pushed : (count : ℕ) (old new : List ℕ) (image : Image) → IsBuffer count old → HasFields image
+    → length old + 12 + length image.bytes ≤ 2 ^ 62
     → ((front : List ℕ) → old ≡ front ++ 0 ∷ [] → new ≡ front ++ image_bytes image ++ 0 ∷ [])
     → (images_in (count + 1) (drop front_room new) ≡ images_in count (drop front_room old) ++ image ∷ [])
     × IsBuffer (count + 1) new
-buffer_pushed count old new image is fields pushed =
+buffer_pushed count old new image is fields short pushed =
     let images = images_in count (drop front_room old) in
     let front = take front_room old in
     let long = buffer_length count old is in
@@ -113,7 +116,15 @@ buffer_pushed count old new image is fields pushed =
     ∙ ap (λ xs. xs ++ 0 ∷ []) more in
     buffer_of (images ++ image ∷ []) (count + 1) new
     (length-append images (image ∷ []) ∙ ap (λ n. n + 1) (buffer_count count old))
-    (All-push HasFields images image is.fields fields) behind
+    (All-push HasFields images image is.fields fields) behind (omega (
+      arith,
+      length-drop front_room new,
+      length-append (images_bytes (images ++ image ∷ [])) (0 ∷ []),
+      ap length behind,
+      ap length (sym more),
+      length-append (images_bytes images) (image_bytes image),
+      length-image_bytes image,
+    ))
 
 -- ---- An image in a slice.
 
@@ -137,11 +148,13 @@ image_put old a b c image fits is_a is_b is_c =
     let long_a : length a ≡ length old = ap length is_a ∙ length-with_bytes old (u64_bytes image.at) 0 (omega arith) in
     let long_b : length b ≡ length a =
     ap length is_b ∙ length-with_bytes a (u32_bytes (length image.bytes)) 8 (omega arith) in
-    let one : take 8 a ≡ u64_bytes image.at = put_behind old a [] (u64_bytes image.at) 0 8 refl is_a (omega arith) (omega arith) in
+    let one : take 8 a ≡ u64_bytes image.at =
+    put_behind old a [] (u64_bytes image.at) 0 8 refl is_a (omega arith) (omega arith) in
     let two : take 12 b ≡ u64_bytes image.at ++ u32_bytes (length image.bytes) =
     put_behind a b (u64_bytes image.at) (u32_bytes (length image.bytes)) 8 12 one is_b (omega arith) (omega arith) in
     let three : take n c ≡ image_bytes image =
-    put_behind b c (u64_bytes image.at ++ u32_bytes (length image.bytes)) image.bytes 12 n two is_c (omega arith) (omega arith) in
+    put_behind b c (u64_bytes image.at ++ u32_bytes (length image.bytes)) image.bytes 12 n two is_c (omega arith)
+    (omega arith) in
     let behind : drop n c ≡ drop n old =
     put_before b c image.bytes 12 n is_c (omega arith) (omega arith)
     ∙ put_before a b (u32_bytes (length image.bytes)) 8 n is_b (omega arith) (omega arith)
@@ -223,7 +236,8 @@ first_front old view a between b under len size epoch gate is_len long is_size i
     let same_b = written_whole under b len (long_b ∙ long_a ∙ is_len) in
     let front : take 16 b ≡ u64_bytes size ++ u64_bytes epoch =
     put_behind a b (u64_bytes size) (u64_bytes epoch) 8 16
-    (put_behind old a [] (u64_bytes size) 0 8 refl put_a (omega arith) (omega arith)) put_b (omega arith) (omega arith) in
+    (put_behind old a [] (u64_bytes size) 0 8 refl put_a (omega arith) (omega arith)) put_b (omega arith)
+    (omega arith) in
     let behind : drop 16 b ≡ drop 16 old =
     put_before a b (u64_bytes epoch) 8 16 put_b (omega arith) (omega arith)
     ∙ put_before old a (u64_bytes size) 0 16 put_a (omega arith) (omega arith) in
@@ -277,7 +291,11 @@ group_slice count gate epoch start old new view images is found front is_view =
 pub buffer_kept : (count : ℕ) (old new : List ℕ) → IsBuffer count old → drop 16 new ≡ drop 16 old
     → (images_in count (drop front_room new) ≡ images_in count (drop front_room old)) × IsBuffer count new
 buffer_kept count old new is kept =
-    buffer_of (images_in count (drop front_room old)) count new (buffer_count count old) is.fields (kept ∙ is.images)
+    let size = buffer_length count old is in
+    let same : length new ≡ length old =
+    omega (arith, length-drop 16 new, length-drop 16 old, ap length kept) in
+    buffer_of (images_in count (drop front_room old)) count new (buffer_count count old) is.fields
+    (kept ∙ is.images) (omega (arith, is.short, same))
 
 -- How long a group is, and where its next gate stands.
 front_length : (t : Bool) (n epoch : ℕ) → length (u64_bytes n ++ cond t (u64_bytes epoch) []) ≡ 8 + cond t 8 0

@@ -117,7 +117,8 @@ chain_of_closes file n chain ok = ⊎_elim
     let long = shut.begins.gate in
     (omega arith, omega arith, ap (slice_index file) gate ∙ shut.closed))
     (λ (opened : IsOpenChain file n chain).
-    let closes = chain_closes (length file) file (u64_at file 17) opened.places (25 + u64_at file 9) chain opened.behind in
+    let closes = chain_closes (length file) file (u64_at file 17) opened.places (25 + u64_at file 9) chain
+    opened.behind in
     (omega (arith, closes.later), closes.within, closes.closed))
     (chain_of_cases file n chain ok)
 

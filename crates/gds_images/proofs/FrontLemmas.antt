@@ -123,7 +123,8 @@ module _ (file front : List ℕ) (n : ℕ) (is : front ≡ take 25 file) where
       let size = start_u64 9 (omega arith) in
       chain_opened file n (start_begins starts (omega arith)) (λ z. opened (sym start_byte ∙ z)) (omega arith)
       (omega arith)
-      ∙ ap (λ e. read_on file e [] 25 (u64_at file 9)) (sym epoch) ∙ ap (read_on file (u64_at front 17) [] 25) (sym size)
+      ∙ ap (λ e. read_on file e [] 25 (u64_at file 9)) (sym epoch)
+      ∙ ap (read_on file (u64_at front 17) [] 25) (sym size)
 
 -- ---- A gate.
 
@@ -206,10 +207,12 @@ module _ (file : List ℕ) (epoch : ℕ) (images : List Place) (at left : ℕ) w
         let rest = images_up_to (length file) file epoch (at + 12 + len) (left - (12 + len)) in
         let end : at + left ≡ at + (12 + len) + (left - (12 + len)) = omega arith in
         let place : at + 12 + len ≡ at + (12 + len) = omega arith in
-        ap (λ r. and_then r next) (read_once ∙ images_step (length file) file epoch at left len (u64_at file at) refl refl good)
+        ap (λ r. and_then r next) (read_once ∙ images_step (length file) file epoch at left len (u64_at file at) refl
+        refl good)
         ∙ then_then rest image next
         ∙ then_same rest (λ more. next (image ∷ more))
-        (λ more. chain_behind (length file) file epoch (images ++ image ∷ [] ++ more) (at + (12 + len) + (left - (12 + len))))
+        (λ more. chain_behind (length file) file epoch (images ++ image ∷ [] ++ more)
+        (at + (12 + len) + (left - (12 + len))))
         (λ more ok.
         ap (λ xs. chain_behind (length file) file epoch xs (at + left)) (sym (append_assoc images (image ∷ []) more))
         ∙ ap (chain_behind (length file) file epoch (images ++ image ∷ [] ++ more)) end)
@@ -227,7 +230,8 @@ module _ (file : List ℕ) (epoch : ℕ) (images : List Place) (at left : ℕ) w
 
 -- ---- The bad field of an image.
 
-module _ (file front : List ℕ) (epoch at left : ℕ) (within : at ≤ length file) (is : front ≡ take 12 (drop at file)) where
+module _ (file front : List ℕ) (epoch at left : ℕ) (within : at ≤ length file) (is : front ≡ take 12 (drop at file))
+    where
   image_front : length front ≡ min 12 (length file - at)
   image_front = front_length 12 at file front is
 

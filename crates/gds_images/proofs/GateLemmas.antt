@@ -110,7 +110,8 @@ chain_closes (suc n) file epoch images gate chain ok = ⊎_elim
     subst (λ c. Closes file epoch gate c) (sym end.is)
     (record { later = omega arith; within = within; closed = closed; same_epoch = refl }))
     (λ (more : Continues n file epoch images gate chain).
-    let rest = chain_closes n file epoch (images ++ more.places) (gate + 9 + u64_at file (gate + 1)) chain more.behind in
+    let rest = chain_closes n file epoch (images ++ more.places) (gate + 9 + u64_at file (gate + 1)) chain
+    more.behind in
     record {
       later = omega (arith, rest.later);
       within = rest.within;
@@ -157,13 +158,15 @@ chain_fuel (suc n) (suc m) file epoch images gate within more enough =
     let next = gate + 9 + u64_at file (gate + 1) in
     ap (λ r. cond (not (leb (gate + 1) (length file))) (Err gate) (cond (eqb (slice_index file gate) 0)
     (Ok (ended epoch images gate)) r))
-    (if_same (not (leb (gate + 1 + 8) (length file))) (Err (gate + 1)) (and_then read (behind_group n file epoch images gate))
+    (if_same (not (leb (gate + 1 + 8) (length file))) (Err (gate + 1))
+    (and_then read (behind_group n file epoch images gate))
     (and_then read (behind_group m file epoch images gate))
     (λ (whole : not (leb (gate + 1 + 8) (length file)) ≡ false).
     let long = leb-true (gate + 1 + 8) (length file) (not-false _ whole) in
     then_same read (behind_group n file epoch images gate) (behind_group m file epoch images gate)
     (λ places ok.
-    let end = images_whole (length file) file epoch (gate + 9) (u64_at file (gate + 1)) places (omega arith) (omega arith)
+    let end = images_whole (length file) file epoch (gate + 9) (u64_at file (gate + 1)) places (omega arith)
+    (omega arith)
     ok in
     chain_fuel n m file epoch (images ++ places) next (omega arith) (omega arith) (omega arith))))
 
@@ -193,7 +196,11 @@ group_agrees a b end epoch gate places agree fits group =
     let there : images_from b epoch (gate + 9) left ≡ Ok places =
     images_agree (length a) (length b) a b end epoch (gate + 9) left places agree fits (omega (arith, agree.first_long))
     (omega arith) group.images in (
-      record { opened = λ e. group.opened (sym byte ∙ e); whole = omega arith; images = ap (images_from b epoch (gate + 9)) same ∙ there },
+      record {
+        opened = λ e. group.opened (sym byte ∙ e);
+        whole = omega arith;
+        images = ap (images_from b epoch (gate + 9)) same ∙ there;
+      },
       same,
     )
 

@@ -34,18 +34,21 @@ length-images_bytes image images =
     ∙ ap (λ n. n + length (images_bytes images)) (length-image_bytes image)
 
 -- the fields of an image that stands at a place
-module _ (file : List ℕ) (at : ℕ) (image : Image) (rest : List ℕ) (here : drop at file ≡ image_bytes image ++ rest) where
+module _ (file : List ℕ) (at : ℕ) (image : Image) (rest : List ℕ) (here : drop at file ≡ image_bytes image ++ rest)
+    where
   pub image_fields : drop at file ≡ u64_bytes image.at ++ (u32_bytes (length image.bytes) ++ (image.bytes ++ rest))
   image_fields = here ∙ simp append_assoc
 
   pub image_at_is : image.at < 2 ^ 64 → u64_at file at ≡ image.at
-  image_at_is fits = u64_at-here file (u32_bytes (length image.bytes) ++ (image.bytes ++ rest)) at image.at fits image_fields
+  image_at_is fits = u64_at-here file (u32_bytes (length image.bytes) ++ (image.bytes ++ rest)) at image.at fits
+      image_fields
 
   pub image_length_is : length image.bytes < 2 ^ 32 → u32_at file (at + 8) ≡ length image.bytes
   image_length_is fits =
       let next : drop (at + 8) file ≡ u32_bytes (length image.bytes) ++ (image.bytes ++ rest) =
       sym (drop-drop 8 at file) ∙ ap (drop 8) image_fields
-      ∙ drop_at (u64_bytes image.at) (u32_bytes (length image.bytes) ++ (image.bytes ++ rest)) 8 (length-u64_bytes image.at) in
+      ∙ drop_at (u64_bytes image.at) (u32_bytes (length image.bytes) ++ (image.bytes ++ rest)) 8
+      (length-u64_bytes image.at) in
       u32_at-here file (image.bytes ++ rest) (at + 8) (length image.bytes) fits next
 
   pub image_behind : drop (at + 12 + length image.bytes) file ≡ rest
@@ -84,7 +87,8 @@ images_read (image ∷ images) (suc n) file epoch at rest small fit here long en
     let next = at + 12 + len in
     let fewer : left - (12 + len) ≡ length (images_bytes images) = omega arith in
     images_step n file epoch at left len image.at is_at is_len good
-    ∙ ap (λ k. and_then (images_up_to n file epoch next k) (with_first (record { at = image.at; len = len; from = at + 12 }))) fewer
+    ∙ ap (λ k. and_then (images_up_to n file epoch next k)
+    (with_first (record { at = image.at; len = len; from = at + 12 }))) fewer
     ∙ ap (λ r. and_then r (with_first (record { at = image.at; len = len; from = at + 12 })))
     (images_read images n file epoch next rest small (All-tail (FitsEpoch epoch) image images fit)
     (image_behind file at image behind this) (omega arith) (omega arith))
@@ -140,7 +144,8 @@ opened_file file byte gate group stands =
 next_field : (file : List ℕ) (at end n : ℕ) (rest : List ℕ) → drop at file ≡ u64_bytes n ++ rest → end ≡ at + 8
     → drop end file ≡ rest
 next_field file at end n rest here is =
-    ap (λ k. drop k file) is ∙ sym (drop-drop 8 at file) ∙ ap (drop 8) here ∙ drop_at (u64_bytes n) rest 8 (length-u64_bytes n)
+    ap (λ k. drop k file) is ∙ sym (drop-drop 8 at file) ∙ ap (drop 8) here
+    ∙ drop_at (u64_bytes n) rest 8 (length-u64_bytes n)
 
 module _ (file : List ℕ) (byte n epoch : ℕ) (images : List Image) (small : epoch < 2 ^ 63)
     (fit : All (FitsEpoch epoch) images) (some : byte ≢ 0) where
@@ -199,7 +204,8 @@ module _ (file : List ℕ) (byte n epoch : ℕ) (images : List Image) (small : e
       next_field b (gate + 1) (gate + 9) size (images_bytes images ++ 0 ∷ rest) all (omega arith) in
       let is_size : u64_at b (gate + 1) ≡ size = u64_at-here b _ (gate + 1) size (omega arith) all in
       let long = length-set file gate byte in
-      let closes = chain_closes (length file) file (u64_at file 17) opened.places (25 + u64_at file 9) chain opened.behind in
+      let closes = chain_closes (length file) file (u64_at file 17) opened.places (25 + u64_at file 9) chain
+      opened.behind in
       let short_enough = closes.within in
       let from = closes.later in
       let open_byte : slice_index b gate ≡ byte = get_or-set_same file gate byte 0 short_enough in
@@ -222,7 +228,8 @@ pub opens : OpensToGroup
 opens file byte n epoch chain images ok low small same fit short stands some = ⊎_elim
     (λ (shut : IsClosedChain file chain).
     subst (λ (c : Chain). gate_behind c.next_gate images < 2 ^ 63
-    → take (length (group_bytes c.next_gate epoch images)) (drop (c.next_gate + 1) file) ≡ group_bytes c.next_gate epoch images
+    → take (length (group_bytes c.next_gate epoch images)) (drop (c.next_gate + 1) file)
+    ≡ group_bytes c.next_gate epoch images
     → chain_of (slice_set file c.next_gate byte) n ≡ Ok (ended epoch
     (c.images ++ places_from (images_place c.next_gate) images) (gate_behind c.next_gate images)))
     (sym shut.is)

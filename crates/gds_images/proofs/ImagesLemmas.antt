@@ -76,7 +76,8 @@ pub images_step : (n : ℕ) (file : List ℕ) (epoch at left len place : ℕ)
     → images_up_to (suc n) file epoch at left
     ≡ and_then (rest_of n file epoch at left len) (with_first (record { at = place; len = len; from = at + 12 }))
 images_step n file epoch at left len place is_at is_len good =
-    let here : IsGood file epoch at left (image_length file at) = subst (λ k. IsGood file epoch at left k) (sym is_len) good in
+    let here : IsGood file epoch at left (image_length file at) =
+    subst (λ k. IsGood file epoch at left k) (sym is_len) good in
     let none = no_bad_field file epoch at left here in
     let some : eqb left 0 ≡ false = ne_eqb left 0 (λ e. omega (arith, good.fills)) in
     rw (some, none, is_len, is_at)
@@ -119,13 +120,15 @@ unless_same None x y same = same refl
 unless_same (Some at) x y same = refl
 
 pub images_fuel : (n m : ℕ) (file : List ℕ) (epoch at left : ℕ) → at ≤ length file
-    → length file < at + n → length file < at + m → images_up_to n file epoch at left ≡ images_up_to m file epoch at left
+    → length file < at + n → length file < at + m
+    → images_up_to n file epoch at left ≡ images_up_to m file epoch at left
 images_fuel zero m file epoch at left within more enough = absurd (omega arith)
 images_fuel (suc n) zero file epoch at left within more enough = absurd (omega arith)
 images_fuel (suc n) (suc m) file epoch at left within more enough =
     let len = image_length file at in
     ap (λ r. cond (eqb left 0) (Ok []) r)
-    (unless_same (bad_field file epoch at left) (and_then (rest_of n file epoch at left len) (with_first (image_at file at)))
+    (unless_same (bad_field file epoch at left) (and_then (rest_of n file epoch at left len)
+    (with_first (image_at file at)))
     (and_then (rest_of m file epoch at left len) (with_first (image_at file at)))
     (λ none.
     let good = good_field file epoch at left none in
@@ -155,7 +158,8 @@ images_agree zero m a b end epoch at left places agree within few enough ok =
     let none : left ≡ 0 = omega arith in
     ap (images_up_to m b epoch at) none ∙ images_end m b epoch at ∙ ok
 images_agree (suc n) zero a b end epoch at left places agree within few enough ok =
-    let none : left ≡ 0 = omega arith in sym (images_end (suc n) a epoch at) ∙ ap (images_up_to (suc n) a epoch at) (sym none) ∙ ok
+    let none : left ≡ 0 = omega arith in
+    sym (images_end (suc n) a epoch at) ∙ ap (images_up_to (suc n) a epoch at) (sym none) ∙ ok
 images_agree (suc n) (suc m) a b end epoch at left places agree within few enough ok = ⊎_elim
     (λ ended. rw (ended.0, ended.1))
     (λ (read : Reads n a epoch at left places).
@@ -165,7 +169,12 @@ images_agree (suc n) (suc m) a b end epoch at left places agree within few enoug
     let same_at = u64_agrees end a b agree at (omega arith) in
     let same_len = u32_agrees end a b agree (at + 8) (omega arith) in
     let there : IsGood b epoch at left len =
-    record { some = good.some; fills = fills; whole = omega (arith, agree.second_long); low = omega (arith, good.low) } in
+    record {
+      some = good.some;
+      fills = fills;
+      whole = omega (arith, agree.second_long);
+      low = omega (arith, good.low);
+    } in
     let rest = images_agree n m a b end epoch (at + 12 + len) (left - (12 + len)) read.more agree (omega arith)
     (omega arith) (omega arith) read.behind in
     images_step m b epoch at left len (u64_at a at) same_at same_len there

@@ -1,6 +1,7 @@
 pub mod AgreeLemmas
 pub mod BufferLemmas
 pub mod ChainLemmas
+pub mod FirstLemmas
 pub mod FrontLemmas
 pub mod GateLemmas
 pub mod GroupLemmas

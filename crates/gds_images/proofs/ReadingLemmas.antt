@@ -118,7 +118,8 @@ module _ {H : Type 0} {contents : H → Option Contents} {moment : H → ℕ} {c
             ∙ read_image x.images limits.epoch_length places at left so_far.some (omega (arith, so_far.within)) is.0
             ∙ ap (λ p. read_on x.images limits.epoch_length (places ++ p ∷ []) (at + (12 + image_length x.images at))
             (left - (12 + image_length x.images at))) (sym is.1)
-            ∙ ap (λ n. read_on x.images limits.epoch_length (places ++ place ∷ []) (at + (12 + n)) (left - (12 + n))) same_len
+            ∙ ap (λ n. read_on x.images limits.epoch_length (places ++ place ∷ []) (at + (12 + n)) (left - (12 + n)))
+            same_len
             ∙ ap (λ xs. read_on x.images limits.epoch_length xs end (left - (12 + taken))) (sym is_after);
       }
 
@@ -151,7 +152,8 @@ pub record IsReadTo {H : Type 0} (contents : H → Option Contents) (moment : H 
       (λ c. read_on c.images limits.epoch_length [] 25 first ≡ read_gate c.images limits.epoch_length places gate)
 
 module _ {H : Type 0} {contents : H → Option Contents} {moment : H → ℕ} {counts : H → Failures}
-    {left_since : H → ℕ → Contents → Type 0} (old now : H) (limits : Limits) (first : ℕ) (places : List Place) (gate : ℕ)
+    {left_since : H → ℕ → Contents → Type 0} (old now : H) (limits : Limits) (first : ℕ) (places : List Place)
+    (gate : ℕ)
     (so_far : IsReadTo contents moment counts left_since old now limits first places gate) (read : Option ℕ)
     (is : ForSome (contents now) (λ c. (epoch : ℕ) (images : List Place) → IsGate c.images epoch images gate (Ok read)))
   where

@@ -44,10 +44,10 @@ module _ (image : List ℕ) (whole : IsWhole image) where
 
   -- A file that begins with it is cut to it.
   module _ (file : List ℕ) (begins : take (length image) file ≡ image) where
-    file_longer : length image ≤ length file
+    pub file_longer : length image ≤ length file
     file_longer = omega (arith, length-take (length image) file, ap length begins)
 
-    same_front : take 8192 file ≡ take 8192 image
+    pub same_front : take 8192 file ≡ take 8192 image
     same_front = sym (take-take 8192 (length image) file header_fits) ∙ ap (take 8192) begins
 
     file_readable : ending_kind file ≡ None
@@ -57,7 +57,7 @@ module _ (image : List ℕ) (whole : IsWhole image) where
         le-ltb _ _ (let e = front_length in let l = file_longer in omega arith) in
         ending ∙ ap (λ t. cond t (Some ShortFile) None) long
 
-    file_length : image_length file ≡ length image
+    pub file_length : image_length file ≡ length image
     file_length =
         ap file_length_of (sym (fields_of-front 8192 file (lit≤ tt)))
         ∙ ap image_length same_front ∙ front_length

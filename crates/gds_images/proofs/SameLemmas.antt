@@ -18,7 +18,8 @@ map_byte size file group j = slice_index (take size (drop (8192 + 512 * group * 
 
 abbrev is_new : ℕ → List ℕ → ℕ → Bool
 is_new size file block =
-    not (eqb (block % 512) 0) && eqb (pair_in (map_byte size file (block / 512) (16 + block % 512 / 4)) (block % 512 % 4)) 1
+    not (eqb (block % 512) 0)
+    && eqb (pair_in (map_byte size file (block / 512) (16 + block % 512 / 4)) (block % 512 % 4)) 1
 
 new_by_map : (file : List ℕ) (i : ℕ)
     → is_in_new_block file i ≡ (leb 8192 i && is_new (u32_at file 8) file ((i - 8192) / u32_at file 8))
@@ -37,7 +38,8 @@ map_not_new file group j low =
     let offset : i - 8192 ≡ 512 * group * size + j = omega arith in
     let block : (i - 8192) / size ≡ 512 * group = ap (λ n. n / size) offset ∙ div-mul-add (512 * group) size j low in
     let turned : 512 * group ≡ group * 512 + 0 = omega arith in
-    let map : (i - 8192) / size % 512 ≡ 0 = ap (λ n. n % 512) (block ∙ turned) ∙ mod-mul-add group 512 0 (omega arith) in
+    let map : (i - 8192) / size % 512 ≡ 0 =
+    ap (λ n. n % 512) (block ∙ turned) ∙ mod-mul-add group 512 0 (omega arith) in
     new_by_map file i ∙ and_right (leb 8192 i) (is_new size file ((i - 8192) / size))
     (and_left (not (eqb ((i - 8192) / size % 512) 0)) _ (ap not (eq-eqb ((i - 8192) / size % 512) 0 map)))
 

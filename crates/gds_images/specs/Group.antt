@@ -1,5 +1,5 @@
 -- The bytes of a group of images, as they are written behind its gate.
-use Rattle.std.specs.Prelude.{◌≡◌, ℕ, zero, suc, ◌+◌, ◌^◌, ◌<◌, ◌==◌, All, List, [], ◌∷◌, ◌++◌, length, take, drop}
+use Rattle.std.specs.Prelude.{◌≡◌, ℕ, zero, suc, ◌+◌, ◌^◌, ◌<◌, ◌≤◌, ◌==◌, All, List, [], ◌∷◌, ◌++◌, length, take, drop}
 use Rattle.std.specs.Prelude.{if◌then◌else◌}
 use Rattle.std.specs.List.{flat_map}
 use Rattle.gds_block.specs.Fields.{u32_at, u64_at, u32_bytes, u64_bytes}
@@ -52,6 +52,12 @@ images_in (suc n) bytes =
     let len = u32_at bytes 8 in
     record { at = u64_at bytes 0; bytes = take len (drop 12 bytes) } ∷ images_in n (drop (12 + len) bytes)
 
+-- The bytes begin with those of these images, and more stand behind them.
+pub record BeginsWith (images : List Image) (bytes : List ℕ) : Type 0 where
+  pub front : take (length (images_bytes images)) bytes ≡ images_bytes images
+  pub more : length (images_bytes images) < length bytes
+  pub fields : All HasFields images
+
 -- How images wait in memory: behind room for the front of their group, and with the closed gate that will stand behind
 -- them.
 abbrev pub front_room : ℕ
@@ -60,3 +66,4 @@ front_room = 16
 pub record IsBuffer (count : ℕ) (bytes : List ℕ) : Type 0 where
   pub images : drop front_room bytes ≡ images_bytes (images_in count (drop front_room bytes)) ++ 0 ∷ []
   pub fields : All HasFields (images_in count (drop front_room bytes))
+  pub short : length bytes ≤ 2 ^ 62

@@ -7,17 +7,21 @@ ghost use Rattle.host_model.specs.Failures.{NeverFell, Rose};
 ghost use Rattle.host_model.specs.Moments.{LeavesBy};
 ghost use Rattle.host_model.specs.Told.{TellsOn};
 ghost use Rattle.gds_images.specs.Chain.{first_gate};
-ghost use Rattle.gds_images.specs.Group.{front_bytes, gate_behind, group_bytes, image_bytes};
+ghost use Rattle.gds_images.specs.Group.{BeginsWith, front_bytes, front_room, gate_behind, group_bytes, image_bytes};
+ghost use Rattle.gds_images.specs.Group.{images_bytes, images_in};
 
 use super::fields::HEAD_LENGTH;
-use gds_block::{put_bytes, put_u32, put_u64};
+use gds_block::{put_bytes, put_u32, put_u64, u32_at};
 use host_model::{FileNo, Host, HostFailed, store};
 use std::alloc::{AllocError, Global};
 use std::marker::Model;
 
-/// How many bytes stand at most between a gate and the images behind it: the length of the group, and behind gate 0 that
-/// of the epoch's database.
+/// How many bytes stand at most between a gate and the images behind it: the length of the group, and behind gate 0
+/// that of the epoch's database.
 const FRONT_ROOM: usize = 16;
+
+/// How many bytes the buffer of a group has at most, so that each place in a file of images is a number.
+const MAX_BUFFER: usize = 1 << 62;
 
 /// Images of one group in memory, as they stand in the file: old bytes of the database file and where they belong.
 ///
@@ -66,15 +70,61 @@ impl Group {
     }
 
     /// One image more: these bytes of the database file, from a place on.
+    ///
+    /// A group of 2^62 bytes is refused as want of memory.
     pub fn push(&mut self, at: u64, bytes: &[u8]) -> Result<(), AllocError>
         requires { length bytes.now < 2 ^ 32 }
         ensures ok { OnOk result (self.new ≡ self.old ++ (record { at = at; bytes = bytes.now }) ∷ []) }
         ensures err { OnErr result (self.new ≡ self.old) }
     {
+        if self.bytes.len() + HEAD_LENGTH + bytes.len() > MAX_BUFFER {
+            return Err(AllocError);
+        }
         push_image(&mut self.bytes, at, bytes)?;
         self.count += 1;
         Ok(())
     }
+
+    /// Keeps the first images, so many of them, and lets the others go. Their memory stays.
+    pub fn truncate(&mut self, count: usize)
+        ensures { self.new ≡ take count self.old }
+    {
+        if count < self.count {
+            cut_images(&mut self.bytes, count);
+            self.count = count;
+        }
+    }
+
+    /// Lets all images go. Their memory stays.
+    pub fn clear(&mut self)
+        ensures { self.new ≡ [] }
+    {
+        self.truncate(0);
+    }
+}
+
+/// Keeps the first images of a buffer, so many of them, with the closed gate behind them.
+fn cut_images(buffer: &mut Vec<u8>, count: usize)
+    requires { BeginsWith (images_in count (drop front_room buffer.old.items)) (drop front_room buffer.old.items) }
+    ensures { buffer.new.items ≡ take front_room buffer.old.items
+        ++ images_bytes (images_in count (drop front_room buffer.old.items)) ++ 0 ∷ [] }
+{
+    let end = FRONT_ROOM + images_length(&buffer[FRONT_ROOM..], count);
+    buffer[end] = 0;
+    buffer.truncate(end + 1);
+}
+
+/// How many bytes the first images have that stand here one behind the other, so many of them.
+fn images_length(bytes: &[u8], count: usize) -> usize
+    requires { BeginsWith (images_in count bytes.now) bytes.now }
+    ensures { result ≡ length (images_bytes (images_in count bytes.now)) }
+{
+    let mut rest = bytes;
+    for _ in 0..count {
+        let len = u32_at(rest, 8) as usize;
+        rest = &rest[HEAD_LENGTH + len..];
+    }
+    bytes.len() - rest.len()
 }
 
 /// Puts an image before the byte at the end.
@@ -116,9 +166,10 @@ pub fn append_group<H: Host>(
     images: &mut Group,
     epoch_length: u64,
 ) -> Result<u64, HostFailed>
-    requires ends { gate_behind gate images.old < 2 ^ 63 }
+    requires small { gate < 2 ^ 62 }
     requires gate { ForSome (H.told host.old) (λ c. gate < length c.images) }
     ensures images { images.new ≡ images.old }
+    ensures ends { gate_behind gate images.old < 2 ^ 63 }
     ensures next { IfOk result (λ next. next ≡ gate_behind gate images.old) }
 
     // At any moment a crash leaves what it could have left before, with the write torn. After Ok it leaves the group.

@@ -50,8 +50,8 @@ pub record Heads (x y : ℕ) (a b : List ℕ) : Type 0 where
   pub below : x ≤ y
   pub tails : x ≡ y → slice_cmp nat_cmp a b ≡ Less
 
-pub heads_of : (x y : ℕ) (a b : List ℕ) (o : Ordering) → o ≡ nat_cmp x y → ordering_then o (slice_cmp nat_cmp a b) ≡ Less
-    → Heads x y a b
+pub heads_of : (x y : ℕ) (a b : List ℕ) (o : Ordering) → o ≡ nat_cmp x y
+    → ordering_then o (slice_cmp nat_cmp a b) ≡ Less → Heads x y a b
 heads_of x y a b Less e h = record { below = grind (arith, nat_tests); tails = λ s. absurd (grind (arith, nat_tests)) }
 heads_of x y a b Equal e h = record { below = grind (arith, nat_tests); tails = λ s. h }
 heads_of x y a b Greater e h = absurd (cc)

@@ -48,7 +48,8 @@ module _ (own rest key : List ℕ) (m : ℕ) (agree : take m own ≡ take m key)
     agree_on h =
         take-add m s own
         ∙ ap (λ xs. xs ++ take s (drop m own)) agree
-        ∙ ap (λ xs. take m key ++ xs) (sym (take-append-le s (drop m own) rest (omega (arith, length-drop m own))) ∙ both)
+        ∙ ap (λ xs. take m key ++ xs)
+        (sym (take-append-le s (drop m own) rest (omega (arith, length-drop m own))) ∙ both)
         ∙ sym (take-add m s key)
 
     -- all of the key is shared

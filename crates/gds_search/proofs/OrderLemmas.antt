@@ -4,8 +4,7 @@ use Rattle.std.proofs.Common.{◌∙◌, ap, arith}
 use Rattle.std.specs.Prelude.{nat_eq}
 use Rattle.std.specs.Ordering.{nat_cmp, ordering_then}
 use Rattle.std.specs.Cmp.Lexicographic.{slice_cmp}
-use Rattle.std.specs.declared.cmp.Ordering.{Ordering}
-use Rattle.std.specs.declared.cmp.Ordering.TheVariants.{Less, Equal, Greater}
+use Rattle.std.specs.declared.cmp.Ordering.TheVariants.{Less}
 use Rattle.std.proofs.lemmas.Bool.{cases_order, eq-eqb, ne_eqb, cond-true, cond-false}
 use Rattle.m_number.proofs.OrderingLemmas.{nat_cmp_less, nat_cmp_equal}
 use Rattle.m_key.specs.KeyEnd.{shared}
@@ -72,8 +71,11 @@ stands-above (x ∷ p) (y ∷ n) (z ∷ k) h l less =
             | inr d ↦
                 let ne : x ≡ z → ⊥ = λ f. elim d [ inl u ↦ omega (arith, u, f) | inr u ↦ omega (arith, u, f) ] in
                 rw (shared-heads x z p k ne)
-                (stands-heads y z n k (elim d [ inl u ↦ omega (arith, u, e) | inr u ↦ absurd (omega
-                (arith, u, two.below)) ]))
+                (stands-heads y z n k (elim d [
+                  | inl u ↦ omega (arith, u, e)
+                  | inr u ↦ absurd (omega
+                      (arith, u, two.below))
+                ]))
           ]
       | inr d ↦
           let ne : x ≡ y → ⊥ = λ f. elim d [ inl u ↦ omega (arith, u, f) | inr u ↦ omega (arith, u, f) ] in
@@ -99,8 +101,11 @@ stands-below (x ∷ p) (y ∷ n) (z ∷ k) h less =
             | inr d ↦
                 let ne : x ≡ y → ⊥ = λ e. elim d [ inl u ↦ omega (arith, u, e) | inr u ↦ omega (arith, u, e) ] in
                 rw (shared-heads x y p n ne)
-                (stands-heads z y k n (elim d [ inl u ↦ omega (arith, u, f) | inr u ↦ absurd (omega
-                (arith, u, one.below)) ]))
+                (stands-heads z y k n (elim d [
+                  | inl u ↦ omega (arith, u, f)
+                  | inr u ↦ absurd (omega
+                      (arith, u, one.below))
+                ]))
           ]
       | inr d ↦
           let ne : x ≡ z → ⊥ = λ f. elim d [ inl u ↦ omega (arith, u, f) | inr u ↦ omega (arith, u, f) ] in

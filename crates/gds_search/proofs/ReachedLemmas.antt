@@ -1,6 +1,6 @@
 -- How far a search has come among the records of a block.
 use Rattle.std.proofs.Common.{ℕ, zero, suc, ◌≡◌, ◌+◌, ◌≤◌, ◌<◌, List, [], ◌∷◌, ◌++◌, length, get_or, take, drop}
-use Rattle.std.proofs.Common.{◌⊎◌, inl, inr}
+use Rattle.std.proofs.Common.{Bool, ◌⊎◌, inl, inr}
 use Rattle.std.proofs.Common.{true, false, refl, sym, ◌∙◌, ap, subst, arith, append_assoc}
 use Rattle.std.specs.Prelude.{All}
 use Rattle.std.proofs.lemmas.Bool.{cases_lt}
@@ -9,19 +9,17 @@ use Rattle.std.proofs.lemmas.List.Elements.{All-nil, All-cons, All-append, All-h
 use Rattle.std.specs.Ordering.{nat_cmp, is_lt}
 use Rattle.std.specs.Cmp.Lexicographic.{slice_cmp}
 use Rattle.std.specs.declared.cmp.Ordering.TheVariants.{Less}
-use Rattle.gds_block.specs.Block.{level_of, used_of}
-use Rattle.gds_block.specs.Record.{Record, StandsIn, records_of, records_from}
+use Rattle.gds_block.specs.Record.{Record, StandsIn, records_of}
 use Rattle.gds_block.specs.Item.{Item}
-use Rattle.gds_block.proofs.RecordLemmas.{records_from-unique}
 use Rattle.m_key.specs.Key.{Below}
 use Rattle.m_key.specs.KeyEnd.{IsKey, shared}
 use Rattle.m_key.proofs.KeyEndLemmas.{shared-nil, take-shared, shared-le, length-key}
 use Rattle.gds_pack.specs.Packed.{record_size, packed_size, packed_record, packed_records, key_behind, first_key}
 use Rattle.gds_pack.specs.Packable.{IsNext, AreLeaves, AreIndex, ArePackable}
 use Rattle.gds_pack.proofs.SizeLemmas.{records_size-append, key_behind-append}
-use Rattle.gds_pack.proofs.ReadLemmas.{IsBefore, neighbours, length-body, AreSized-packable, AreRecords-packed}
+use Rattle.gds_pack.proofs.ReadLemmas.{IsBefore, neighbours, length-body}
 use Rattle.gds_search.specs.PackedBlock.{IsPackedBlock}
-use Rattle.gds_search.specs.Place.{IsPlaceFor, IsPlace, IsWithin, BeginsAt, BeginsAbove}
+use Rattle.gds_search.specs.Place.{IsPlace, IsWithin, BeginsAt, BeginsAbove}
 use Rattle.gds_search.specs.declared.place.Place.{Place}
 use Rattle.gds_search.proofs.PackedLemmas.{records_of-packed}
 use Rattle.gds_search.proofs.OrderLemmas.{Stands, stands-above, stands-below, shared-stops, shared-itself}
@@ -72,17 +70,18 @@ IsReached-start block key height es q p = record {
 
 -- the place at a record that stands in the block
 pub IsWithin-at : (block key : List ℕ) (left : List Record) (r : Record) (rs : List Record) (place : Place)
-    → All (StandsIn block) left → left ≡ r ∷ rs → place.offset ≡ r.offset → place.shared ≤ length key
-    → place.next_shared ≤ length key
-    → IsWithin block key place
-IsWithin-at block key left r rs place placed same at shared next =
+    (m s : ℕ) (e : Bool)
+    → All (StandsIn block) left → left ≡ r ∷ rs
+    → place ≡ record { offset = r.offset; is_equal = e; shared = m; next_shared = s }
+    → m ≤ length key → s ≤ length key → IsWithin block key place
+IsWithin-at block key left r rs place m s e placed same is shared next =
     let P = StandsIn block in
     let stands = All-head P r rs (All-same P (r ∷ rs) left (sym same) placed) in
     record {
-      behind_head = omega (arith, stands.behind_head, at);
-      used = omega (arith, stands.within, at);
-      shares = shared;
-      next_shares = next;
+      behind_head = omega (arith, stands.behind_head, ap (λ p. p.offset) is);
+      used = omega (arith, stands.within, ap (λ p. p.offset) is);
+      shares = omega (arith, shared, ap (λ p. p.shared) is);
+      next_shares = omega (arith, next, ap (λ p. p.next_shared) is);
     }
 
 -- ---- the next entry
@@ -254,7 +253,8 @@ module _ (es : List Item) (key : List ℕ) (height m : ℕ) (left : List Record)
         elim n.kind [
           | inl star ↦ stop_above r.count (inl star.no_key) (omega (arith, counted, star_shares star))
           | inr keyed ↦
-              let s = stands-below previous n.entry.key key keyed.next.above (omega (arith, less, counted, at.shares)) in
+              let s = stands-below previous n.entry.key key keyed.next.above
+              (omega (arith, less, counted, at.shares)) in
               stop_above r.count (inr (ap is_lt s.below)) (counted ∙ sym s.shared_by)
         ]
 

@@ -25,3 +25,4 @@ pub mod ReplaceLemmas
 pub mod AroundLemmas
 pub mod RootLemmas
 pub mod RenumberLemmas
+pub mod SplitLemmas

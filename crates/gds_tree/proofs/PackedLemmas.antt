@@ -2,22 +2,23 @@
 use Rattle.std.proofs.Common.{◌≡◌, ℕ, zero, suc, ◌+◌, ◌-◌, ◌<◌, ◌≤◌, ◌==◌, Bool, true, false, ◌&&◌, List, [], ◌∷◌, ◌++◌}
 use Rattle.std.proofs.Common.{length, take, drop, if◌then◌else◌, Option, None, Some, inl, inr, refl, sym, ap, subst, ◌∙◌}
 use Rattle.std.proofs.Common.{arith, append_assoc}
-use Rattle.std.specs.Prelude.{⊤, nat_le, nat_eq, option_map, option_and_then}
+use Rattle.std.specs.Prelude.{⊤, nat_eq, nat_lt, option_map, option_and_then}
 use Rattle.std.proofs.Math.Numerals.{one-add}
-use Rattle.std.proofs.lemmas.Bool.{cond-true, cond-false, eqb-true, eq-eqb, and_parts, cases_Bool, cases_lt}
+use Rattle.std.proofs.lemmas.Bool.{cond-true, cond-false, eqb-true, eq-eqb, ltb-true, and_parts, or_cases, cases_Bool}
 use Rattle.std.proofs.lemmas.List.{take-append-drop, drop_at, drop_all, length-append, length-drop, length-take}
 use Rattle.std.proofs.lemmas.Option.{cond_some}
 use Rattle.gds_block.specs.Block.{level_of, used_of}
 use Rattle.gds_block.specs.Item.{Item}
-use Rattle.gds_block.specs.Record.{Record, AreRecords, bytes_left, first_record, records_of}
+use Rattle.gds_block.specs.Record.{Record, full_of, AreRecords, bytes_left, first_record, records_of}
 use Rattle.gds_block.specs.Record as block
 use Rattle.gds_block.proofs.RecordLemmas.{Fits-from_well_sized, AreRecords-records_from}
-use Rattle.m_key.specs.KeyEnd.{end_in, zero_after, HasOpenFronts, shared}
-use Rattle.m_key.proofs.KeyEndLemmas.{shared-nil, shared-le, HasOpenFronts-nil, end_in-within}
+use Rattle.m_key.specs.KeyEnd.{key_len, key_within, end_within, HasOpenFronts, shared}
+use Rattle.m_key.proofs.KeyEndLemmas.{shared-nil, shared-le, HasOpenFronts-nil, open_front, key_within-end_within}
+use Rattle.m_key.proofs.KeyEndLemmas.{key_within-le, key_len-within}
 use Rattle.gds_pack.specs.Packed.{record_size, records_size, packed_size, packed_record, packed_records}
 use Rattle.gds_pack.specs.Unpacked.{is_count, leaf_item, index_item, star_item, leaf_items, index_items, end_of, entries_of}
 use Rattle.gds_pack.specs.Unpacked.{IsKeyPart}
-use Rattle.gds_pack.proofs.UnpackLemmas.{leaf_item-no_end, leaf_item-long, IsKeyPart-short, leaf_item-unlawful}
+use Rattle.gds_pack.proofs.UnpackLemmas.{IfNone-leaf_item, IfSome-IsKeyPart, leaf_item-unlawful}
 use Rattle.gds_pack.proofs.UnpackLemmas.{HasOpenFronts-leaf_item}
 use Rattle.gds_law.proofs.PathLemmas.{some_if, some_then}
 use Rattle.gds_sound.proofs.TreeLemmas.{some_map}
@@ -63,24 +64,38 @@ part_needs previous r n low within =
 same_item : (i j : Item) → Some i ≡ Some j → i ≡ j
 same_item i j e = cc
 
+-- the bytes that a count takes of the key before it end no key
+counted : (previous : List ℕ) (count : ℕ) → HasOpenFronts previous → is_count previous count ≡ true
+    → key_len (take count previous) ≡ None
+counted previous count fronts lawful =
+    open_front previous count fronts
+    (elim (or_cases (nat_lt count (length previous)) (nat_eq count 0) lawful) [
+      | inl less ↦ inr (ltb-true count (length previous) less)
+      | inr none ↦ inl (eqb-true count 0 none)
+    ])
+
 item_needs : (previous : List ℕ) (r : Record) (i : Item) → HasOpenFronts previous → leaf_item previous r ≡ Some i
     → Needs previous r i
 item_needs previous r i fronts h = by (is_count previous r.count) refl
   where
     found : (lawful : is_count previous r.count ≡ true) (o : Option ℕ)
-        → o ≡ end_in (zero_after false (take r.count previous)) r.body → Needs previous r i
-    found lawful None e = absurd (cc (leaf_item-no_end previous r fronts lawful e, h))
-    found lawful (Some n) e = elim (cases_lt 255 (r.count + n)) [
-      | inl far ↦ absurd (cc (leaf_item-long previous r fronts lawful n e far, h))
-      | inr near ↦
-          let within = end_in-within r.body (zero_after false (take r.count previous)) n (sym e) in
-          let part = IsKeyPart-short previous r fronts lawful n e within near in
-          subst (Needs previous r) (same_item _ i (sym part.read ∙ h))
-          (part_needs previous r n part.count_within part.within)
-    ]
+        → key_within 255 (full_of previous r) ≡ option_map (λ n. length (take r.count previous) + n) o → Needs previous r i
+    found lawful None e = absurd (cc (IfNone-leaf_item previous r fronts lawful None (λ none. e), h))
+    found lawful (Some n) e =
+        let first : List ℕ = take r.count previous in
+        let inside = key_len-within (take 255 (full_of previous r)) (length first + n) e in
+        let within : n ≤ length r.body =
+        omega (arith, inside, length-take 255 (full_of previous r), length-append first r.body) in
+        let short = key_within-le 255 (full_of previous r) (length first + n) e in
+        let part = IfSome-IsKeyPart previous r fronts lawful (Some n) (λ none. e) within short in
+        subst (Needs previous r) (same_item _ i (sym part.read ∙ h))
+        (part_needs previous r n part.count_within part.within)
 
     by : (t : Bool) → is_count previous r.count ≡ t → Needs previous r i
-    by true e = found e (end_in (zero_after false (take r.count previous)) r.body) refl
+    by true e =
+        let first : List ℕ = take r.count previous in
+        found e (end_within 255 first r.body)
+        (key_within-end_within 255 first r.body (counted previous r.count fronts e))
     by false e = absurd (cc (leaf_item-unlawful previous r e, h))
 
 -- the star needs what it has

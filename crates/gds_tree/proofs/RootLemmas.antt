@@ -33,7 +33,7 @@ same_below image v w level low (e ∷ es) role high = λ i.
       high = high_below (high i) e.key;
     })) (same_below image v w level (Some e.key) es role high i)
 
-high_key : (high : Option (List ℕ)) (key : List ℕ) → (key ≡ [] → ⊥) → high_below high key ≡ Some key
+pub high_key : (high : Option (List ℕ)) (key : List ℕ) → (key ≡ [] → ⊥) → high_below high key ≡ Some key
 high_key high [] some = absurd (some refl)
 high_key high (k ∷ key) some = refl
 
@@ -72,7 +72,7 @@ front_below image v l level previous low (e ∷ f ∷ r) m role high some index 
 
 -- ---- a root that takes its child's content
 
-same_entries : (es fs : List Item) (o : Option (List Item)) → o ≡ Some es → o ≡ Some fs → es ≡ fs
+pub same_entries : (es fs : List Item) (o : Option (List Item)) → o ≡ Some es → o ≡ Some fs → es ≡ fs
 same_entries es fs o e f = cc
 
 module _ (old new : List ℕ) (v : Visit) (level : ℕ) (e : Item) (es : List Item) (t : Tree) (i : IsImage old)

@@ -4,3 +4,4 @@ pub mod Below
 pub mod Keeps
 pub mod Around
 pub mod Renumber
+pub mod Split

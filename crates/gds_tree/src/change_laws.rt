@@ -6,9 +6,10 @@ ghost use Rattle.gds_law.specs.Visit.{Visit};
 ghost use Rattle.gds_law.specs.Path.{Steps, visit_from};
 ghost use Rattle.gds_pack.specs.Packed.{key_behind};
 ghost use Rattle.gds_pack.specs.Unpacked.{entries_of};
-ghost use Rattle.gds_sound.specs.Sound.{Tree, sound_tree};
+ghost use Rattle.gds_sound.specs.Sound.{Tree, joined, sound_tree};
 ghost use Rattle.m_key.specs.Key.{AtMost};
-ghost use Rattle.gds_tree.specs.Below.{low_behind, trees_below, HasEntries, index_tree};
+ghost use Rattle.gds_tree.specs.Below.{as_star, visit_below, low_behind, trees_below, HasEntries, index_tree};
+ghost use Rattle.gds_tree.specs.Split.{PartsAt, InTwoPieces};
 ghost use Rattle.gds_tree.specs.Lawful.{IsTreeNumber};
 ghost use Rattle.gds_tree.specs.Renumber.{exchanged, renumbered_visit, renumbered_tree, IsRenumbered, KeepsNumbers};
 ghost use Rattle.gds_tree.specs.Keeps.{IsImage, KeepsSizes, KeepsBlocks};
@@ -47,6 +48,33 @@ pub fn collapsed_root()
         → entries_of (block_of old (u32_at e.rest 0)) ≡ Some es → HasEntries new v (suc level) es
         → KeepsBlocks old new (drop 2 t.blocks)
         → sound_tree new (suc level) v ≡ Some (record { blocks = v.block ∷ drop 2 t.blocks; items = t.items }) }
+{}
+
+/// Where the entries of an index block go into two blocks side by side, whose bounds a key parts, both pieces have sound
+/// trees in the new image, which keeps what stands below the block: together those that stood there.
+pub fn split_block()
+    ensures { (old new : List ℕ) (v : Visit) (level : ℕ) (a : List Item) (m f : Item) (b : List Item) (t : Tree)
+        (left right : Visit) → IsImage old → IsImage new → KeepsSizes old new
+        → (fields_of old).total ≤ (fields_of new).total → HasEntries old v (suc level) (a ++ m ∷ f ∷ b)
+        → sound_tree old (suc level) v ≡ Some t → KeepsBlocks old new (drop 1 t.blocks)
+        → PartsAt v m.key left right → HasEntries new left (suc level) (a ++ as_star m ∷ [])
+        → HasEntries new right (suc level) (f ∷ b) → InTwoPieces new v level left right t }
+{}
+
+/// Where a root's entries go into two blocks below it, the tree is sound in the new image, which keeps what stood below
+/// the root: one level higher, with the two blocks more and with the same items.
+pub fn split_root()
+    ensures { (old new : List ℕ) (v : Visit) (level : ℕ) (a : List Item) (m f : Item) (b : List Item) (t : Tree)
+        (p q : Item) → IsImage old → IsImage new → KeepsSizes old new
+        → (fields_of old).total ≤ (fields_of new).total → HasEntries old v (suc level) (a ++ m ∷ f ∷ b)
+        → sound_tree old (suc level) v ≡ Some t → KeepsBlocks old new (drop 1 t.blocks)
+        → HasEntries new v (suc (suc level)) (p ∷ q ∷ []) → p.key ≡ m.key
+        → HasEntries new (visit_below v (suc level) v.low p) (suc level) (a ++ as_star m ∷ [])
+        → HasEntries new (visit_below v (suc level) (Some p.key) q) (suc level) (f ∷ b)
+        → (before behind : Tree) × (t ≡ index_tree v (joined before behind))
+        × (sound_tree new (suc (suc level)) v ≡ Some (index_tree v
+        (joined (index_tree (visit_below v (suc level) v.low p) before)
+        (index_tree (visit_below v (suc level) (Some p.key) q) behind)))) }
 {}
 
 /// A sound tree whose blocks get other numbers, in the pointers to them too, is sound under these numbers.

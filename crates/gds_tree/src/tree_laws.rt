@@ -4,7 +4,7 @@ ghost use Rattle.gds_header.specs.Fields.{fields_of};
 ghost use Rattle.gds_law.specs.Visit.{Visit};
 ghost use Rattle.gds_sound.specs.Sound.{Tree, joined, sound_tree, tree_at};
 ghost use Rattle.gds_tree.specs.Below.{visit_below, low_behind, both, trees_below, HasEntries, leaf_tree, index_tree};
-ghost use Rattle.gds_tree.specs.Lawful.{IsTreeNumber, IsLawful};
+ghost use Rattle.gds_tree.specs.Lawful.{IsTreeNumber, IsLawful, IsLawfulEntry};
 ghost use Rattle.gds_tree.specs.Keeps.{IsImage, KeepsSizes, KeepsBlocks, IsWithinTotal, IsWider};
 
 /// A tree is sound exactly where its root's block is right: at level 0 its items are the block's entries, and above it
@@ -26,7 +26,8 @@ pub fn tree_by_entries()
 {}
 
 /// A sound tree is so, with the same blocks and items, in an image that keeps the sizes and the tree's blocks, if the
-/// total is no smaller, or is above the tree's blocks and the roots that it names.
+/// total is no smaller, or is above the tree's blocks and the roots that it names. So are the trees below lawful entries
+/// of an index block.
 pub fn kept_tree()
     ensures grown { (old new : List ℕ) (v : Visit) (level : ℕ) (t : Tree) → IsImage old → IsImage new
         → KeepsSizes old new → (fields_of old).total ≤ (fields_of new).total → v.block < (fields_of old).total
@@ -34,6 +35,10 @@ pub fn kept_tree()
     ensures cut { (old new : List ℕ) (v : Visit) (level : ℕ) (t : Tree) → IsImage old → IsImage new
         → KeepsSizes old new → IsWithinTotal (fields_of new).total v.role t → v.block < (fields_of old).total
         → sound_tree old level v ≡ Some t → KeepsBlocks old new t.blocks → sound_tree new level v ≡ Some t }
+    ensures below { (old new : List ℕ) (v : Visit) (level : ℕ) (low : Option (List ℕ)) (es : List Item) (t : Tree)
+        → IsImage old → IsImage new → KeepsSizes old new → (fields_of old).total ≤ (fields_of new).total
+        → All (IsLawfulEntry (fields_of old) v (suc level)) es → trees_below old v level low es ≡ Some t
+        → KeepsBlocks old new t.blocks → trees_below new v level low es ≡ Some t }
 {}
 
 /// A sound tree is so, with the same blocks and items, within wider bounds.

@@ -23,16 +23,16 @@ use Rattle.gds_epoch.proofs.epoch.write_epoch.Goals as goal
 -- ---- What the calls ask for.
 
 pub append_group-requires-clause-gate : goal.append_group-requires-clause-gate
-append_group-requires-clause-gate g c =
-    group_place c.args.block_size c.args.epoch_length c.args.images.now c.args.waiting.now.units
-    (g.H.Host.told c.args.host.now) c.requires.ready c.requires.short c.requires.group
+append_group-requires-clause-gate g c x tells =
+    group_place c.args.block_size c.args.epoch_length c.args.images.now c.args.waiting.now.units x
+    (c.requires.ready x tells)
 
 pub open_gate-requires : goal.open_gate-requires
 open_gate-requires g c =
     let zero = g.H.Host.told c.args.host.now in
     let one = g.H.Host.told c.append_group.new.host in
     gate_place c.args.block_size c.args.epoch_length c.args.images.now c.args.waiting.now.units zero c.requires.ready
-    c.requires.short c.requires.group one c.append_group.ensures.untold
+    c.requires.short c.append_group.ensures.ends one c.append_group.ensures.untold
     (tells_group c.args.epoch_length c.args.images.now zero one c.in_ok-append_group.ensures.told)
 
 pub write_units-requires : goal.write_units-requires
@@ -45,7 +45,8 @@ write_units-requires g c =
     λ y tells.
     subst (All (LiesWithin c.args.block_size _)) (sym c.as_slice.ensures.units)
     (units_inside c.args.block_size n images c.args.waiting.now.units zero c.requires.ready
-    c.requires.short c.requires.group two (λ none. c.open_gate.ensures.untold (c.append_group.ensures.untold none))
+    c.requires.short c.append_group.ensures.ends two
+    (λ none. c.open_gate.ensures.untold (c.append_group.ensures.untold none))
     (tells_gate (with_group n images) 1 zero one two
     (tells_group n images zero one c.in_ok-append_group.ensures.told) c.in_ok-open_gate.ensures.told) y tells)
 
@@ -59,7 +60,7 @@ close_gate-requires g c =
     let one = g.H.Host.told c.append_group.new.host in
     let two = g.H.Host.told c.open_gate.new.host in
     let three = g.H.Host.told c.write_units.new.host in
-    last_place size n images units zero c.requires.ready c.requires.short c.requires.group three
+    last_place size n images units zero c.requires.ready c.requires.short c.append_group.ensures.ends three
     (λ none. c.write_units.ensures.untold (c.open_gate.ensures.untold (c.append_group.ensures.untold none)))
     (tells_units (λ x. with_gate 1 (with_group n images x)) size units zero two three
     (tells_gate (with_group n images) 1 zero one two
@@ -132,7 +133,7 @@ returns-clause-done g c =
     when_ok (λ r. TellsOn three four (Changes Images (Writes 8 (0 ∷ []) r))) c.close_gate.result
     c.close_gate.ensures.told
     (λ ok told.
-    told_done size n images units zero c.requires.ready c.requires.short c.requires.group three
+    told_done size n images units zero c.requires.ready c.requires.short c.append_group.ensures.ends three
     (λ none. c.write_units.ensures.untold (c.open_gate.ensures.untold (c.append_group.ensures.untold none)))
     (tells_units (λ x. with_gate 1 (with_group n images x)) size units zero two three
     (tells_gate (with_group n images) 1 zero one two
@@ -147,7 +148,7 @@ pub returns-in_err-append_group-clause-any_moment : goal.returns-in_err-append_g
 returns-in_err-append_group-clause-any_moment g c =
     λ now tells.
     grouping_moments c.args.block_size c.args.epoch_length c.args.images.now c.args.waiting.now.units now
-    (c.requires.ready now tells) c.requires.short c.requires.group g.met.H.Host.longer c.args.host.now
+    (c.requires.ready now tells) c.requires.short c.append_group.ensures.ends g.met.H.Host.longer c.args.host.now
     c.append_group.new.host
     (λ left is. record {
       rest = c.requires.rest now tells left is;
@@ -159,7 +160,7 @@ pub returns-in_err-open_gate-clause-any_moment : goal.returns-in_err-open_gate-c
 returns-in_err-open_gate-clause-any_moment g c =
     λ now tells.
     gate_moments c.args.block_size c.args.epoch_length c.args.images.now c.args.waiting.now.units now
-    (c.requires.ready now tells) c.requires.short c.requires.group g.met.H.Host.longer c.args.host.now
+    (c.requires.ready now tells) c.requires.short c.append_group.ensures.ends g.met.H.Host.longer c.args.host.now
     c.append_group.new.host c.open_gate.new.host
     (λ left is. record {
       rest = c.requires.rest now tells left is;
@@ -178,7 +179,7 @@ returns-in_err-write_units-clause-any_moment g c =
     let two = c.open_gate.new.host in
     λ now tells.
     units_moments size n images c.args.waiting.now.units now
-    (c.requires.ready now tells) c.requires.short c.requires.group g.met.H.Host.longer c.args.host.now
+    (c.requires.ready now tells) c.requires.short c.append_group.ensures.ends g.met.H.Host.longer c.args.host.now
     c.append_group.new.host two
     (λ left is. record {
       rest = c.requires.rest now tells left is;
@@ -207,7 +208,7 @@ ended g c now tells =
     let two = c.open_gate.new.host in
     let three = c.write_units.new.host in
     end_come size n images units now
-    (c.requires.ready now tells) c.requires.short c.requires.group g.met.H.Host.longer c.args.host.now
+    (c.requires.ready now tells) c.requires.short c.append_group.ensures.ends g.met.H.Host.longer c.args.host.now
     c.append_group.new.host two
     (λ left is. record {
       rest = c.requires.rest now tells left is;
@@ -220,7 +221,8 @@ ended g c now tells =
     (subst (λ us. LeavesBy g.H.Host.moment g.H.Host.left_since (UnitsTorn size us) two three)
     c.as_slice.ensures.units c.write_units.ensures.any_moment)
     c.close_gate.new.host
-    (units_settled size n images units zero c.requires.ready c.requires.short c.requires.group (g.H.Host.told two)
+    (units_settled size n images units zero c.requires.ready c.requires.short c.append_group.ensures.ends
+    (g.H.Host.told two)
     (λ none. c.open_gate.ensures.untold (c.append_group.ensures.untold none))
     (tells_gate (with_group n images) 1 zero one (g.H.Host.told two)
     (tells_group n images zero one c.in_ok-append_group.ensures.told) c.in_ok-open_gate.ensures.told)
@@ -235,7 +237,7 @@ returns-clause-any_moment g c =
     λ now tells.
     come_now (FindsEither c.args.block_size c.args.epoch_length c.args.waiting.now.units now) (ended g c now tells)
     (filled_finds c.args.block_size c.args.epoch_length c.args.images.now c.args.waiting.now.units now
-    (c.requires.ready now tells) c.requires.short c.requires.group)
+    (c.requires.ready now tells) c.requires.short c.append_group.ensures.ends)
 
 pub returns-clause-rest : goal.returns-clause-rest
 returns-clause-rest g c =
@@ -250,7 +252,7 @@ returns-clause-rest g c =
     let four = c.close_gate.new.host in
     on_ok_weaker c.close_gate.result
     (λ settled now tells.
-    each_rests size n images units now (c.requires.ready now tells) c.requires.short c.requires.group
+    each_rests size n images units now (c.requires.ready now tells) c.requires.short c.append_group.ensures.ends
     g.met.H.Host.longer c.args.host.now four (ended g c now tells)
     (images_settled (λ x. with_units size units (with_gate 1 (with_group n images x))) 0 zero three
     (g.H.Host.left_since four (g.H.Host.moment four))

@@ -19,7 +19,8 @@ same_place at at' len len' from place is_at is_len is =
 pub returns-then-front-lt8-clause-image : goal.returns-then-front-lt8-clause-image
 returns-then-front-lt8-clause-image c file whole is =
     let within = c.requires in
-    bad_place file c.args.front.now c.args.limits.epoch_length c.args.at c.args.left (omega arith) is c.if-front-lt8.true
+    bad_place file c.args.front.now c.args.limits.epoch_length c.args.at c.args.left (omega arith) is
+    c.if-front-lt8.true
 
 pub returns-then-left-lt12-clause-image : goal.returns-then-left-lt12-clause-image
 returns-then-left-lt12-clause-image c file whole is =
@@ -56,7 +57,8 @@ returns-then-not-fits-clause-image c file whole is =
     let belongs = c.u64_at-belongs.ensures in
     let size = c.from-size.ensures in
     let fills = c.if-left-size.false in
-    let past = above c.fits.result (c.u64_at-belongs.result + c.from-size.result) c.args.limits.epoch_length c.fits.ensures
+    let past = above c.fits.result (c.u64_at-belongs.result + c.from-size.result) c.args.limits.epoch_length
+    c.fits.ensures
     c.if-not-fits.true in
     bad_rule file c.args.front.now c.args.limits.epoch_length c.args.at c.args.left (omega arith) is
     c.if-front-lt8.false c.if-left-lt12.false c.if-front-lt-HEAD_LENGTH.false (omega arith) (inr (omega arith))

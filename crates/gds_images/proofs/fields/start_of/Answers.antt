@@ -15,7 +15,8 @@ returns-then-front-le8-clause-start c file is =
 
 pub returns-then-front-eq0-clause-start : goal.returns-then-front-eq0-clause-start
 returns-then-front-eq0-clause-start c file is =
-    closed_start file c.args.front.now c.args.db_length is (sym c.starts_with.ensures.value ∙ c.if-not-starts_with.false)
+    closed_start file c.args.front.now c.args.db_length is
+    (sym c.starts_with.ensures.value ∙ c.if-not-starts_with.false)
     c.if-front-le8.false c.if-front-eq0.true
 
 pub returns-then-front-lt17-clause-start : goal.returns-then-front-lt17-clause-start

@@ -34,7 +34,8 @@ returns-clause-cause g c =
     let opened = start_opened (h.told c.args.host.now) (h.told c.len.new.self) c.args.db_length
     (take c.in_ok-count.count c.read_front.new.out) c.in_ok-file_length.ensures.kept.told c.in_ok-count.ensures.bytes
     c.in_ok-start.field-0 c.in_ok-start.ensures.start start c.in-Some.is in
-    let read = OnlyRead-then h.told h.moment h.failures h.left_since c.args.host.now c.len.new.self c.read_front.new.host
+    let read = OnlyRead-then h.told h.moment h.failures h.left_since c.args.host.now c.len.new.self
+    c.read_front.new.host
     (only_read h.told h.moment h.failures h.left_since c.args.host.now c.len.new.self
     (g.met.H.Host.longer c.args.host.now) c.in_ok-file_length.ensures.kept)
     c.in_ok-count.ensures.host in

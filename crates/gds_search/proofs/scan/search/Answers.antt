@@ -1,15 +1,24 @@
-use Rattle.std.proofs.Common.{ℕ, ◌≡◌, ◌<◌, ◌↔◌, Bool, length, false, refl, sym, ap, subst, ◌∙◌, arith}
-use Rattle.std.proofs.Common.{IsTrue, length-drop}
+use Rattle.std.proofs.Common.{ℕ, ◌+◌, ◌-◌, ◌≡◌, ◌<◌, ◌≤◌, ◌↔◌, Bool, false, IsTrue, List, length, take, drop}
+use Rattle.std.proofs.Common.{refl, sym, ◌∙◌, ap, subst, arith, length-drop}
 use Rattle.std.proofs.lemmas.Bool.{false≢true}
 use Rattle.std.proofs.lemmas.List.{take_rest}
 use Rattle.std.proofs.lemmas.List.Elements.{All-same, All-rest}
 use Rattle.gds_block.specs.Record.{StandsIn}
-use Rattle.gds_block.specs.Item.{Item}
 use Rattle.gds_search.specs.Place.{IsPlace}
 use Rattle.gds_search.proofs.ReachedLemmas.{IsReached, IsReached-start, IsReached-skipped, IsPlace-end, IsPlace-past}
 use Rattle.gds_search.proofs.ReachedLemmas.{IsPlace-star, IsPlace-equal, IsPlace-above, IsReached-passed}
 use Rattle.gds_search.proofs.ReachedLemmas.{no_end_within, IsWithin-at}
 use Rattle.gds_search.proofs.scan.search.Goals as goal
+
+-- bytes shared with what is left of a key
+within-key : (key : List ℕ) (m s : ℕ) → m ≤ length key → s ≤ length (take (length key - m) (drop m key))
+    → m + s ≤ length key
+within-key key m s h k = omega (arith, h, k, ap length (take_rest key m), length-drop m key)
+
+-- what the test for the star says of a record that isn't one
+no_star : (star : Bool) (level height n : ℕ) → IsTrue star ↔ ((0 < level) × (n ≡ 4)) → star ≡ false → level ≡ height
+    → (height ≡ 0 → ⊥) → n ≡ 4 → ⊥
+no_star star level height n test e same index four = false≢true (sym e ∙ test.1 (omega (arith, index, same), four))
 
 pub loop-view-init : goal.loop-view-init
 loop-view-init c = record {
@@ -41,9 +50,9 @@ loop-view-preserved-then-count-shared c = record {
 
 pub returns-then-count-shared-2-clause-within : goal.returns-then-count-shared-2-clause-within
 returns-then-count-shared-2-clause-within c =
-    IsWithin-at c.args.block.now c.args.key.now c.loop-view.view-iterator _ c.next.new.self _
-    c.loop-view.invariant.placed c.in-Some.ensures.steps (ap (λ p. p.offset) c.above.ensures) (omega (arith, ap (λ p. p.shared) c.above.ensures, c.loop-view.invariant.within))
-    (omega (arith, ap (λ p. p.next_shared) c.above.ensures, c.loop-view.invariant.within, c.if-count-shared-2.true))
+    IsWithin-at c.args.block.now c.args.key.now c.loop-view.view-iterator _ c.next.new.self c.above.result _ _ _
+    c.loop-view.invariant.placed c.in-Some.ensures.steps c.above.ensures c.loop-view.invariant.within
+    (omega (arith, c.loop-view.invariant.within, c.if-count-shared-2.true))
 
 pub returns-then-count-shared-2-clause-found : goal.returns-then-count-shared-2-clause-found
 returns-then-count-shared-2-clause-found c height es q p =
@@ -60,9 +69,9 @@ returns-then-count-shared-2-clause-found c height es q p =
 
 pub returns-then-is_star-clause-within : goal.returns-then-is_star-clause-within
 returns-then-is_star-clause-within c =
-    IsWithin-at c.args.block.now c.args.key.now c.loop-view.view-iterator _ c.next.new.self _
-    c.loop-view.invariant.placed c.in-Some.ensures.steps (ap (λ p. p.offset) c.above-then-is_star.ensures) (omega (arith, ap (λ p. p.shared) c.above-then-is_star.ensures, c.loop-view.invariant.within))
-    (omega (arith, ap (λ p. p.next_shared) c.above-then-is_star.ensures))
+    IsWithin-at c.args.block.now c.args.key.now c.loop-view.view-iterator _ c.next.new.self c.above-then-is_star.result _ _ _
+    c.loop-view.invariant.placed c.in-Some.ensures.steps c.above-then-is_star.ensures c.loop-view.invariant.within
+    (omega arith)
 
 pub returns-then-is_star-clause-found : goal.returns-then-is_star-clause-found
 returns-then-is_star-clause-found c height es q p =
@@ -73,14 +82,9 @@ returns-then-is_star-clause-found c height es q p =
     (sym c.in-Some.ensures.steps)
     (λ e. omega (arith, e, star.0, c.level-level.ensures, p.level)) star.1)
 
--- what the test for the star says of a record that isn't one
-no_star : (star : Bool) (level height n : ℕ) → IsTrue star ↔ ((0 < level) × (n ≡ 4)) → star ≡ false → level ≡ height
-    → (height ≡ 0 → ⊥) → n ≡ 4 → ⊥
-no_star star level height n test e same index four = false≢true (sym e ∙ test.1 (omega (arith, index, same), four))
-
 pub returns-then-same-rest-clause-within : goal.returns-then-same-rest-clause-within
 returns-then-same-rest-clause-within c =
-    IsWithin-at c.args.block.now c.args.key.now c.loop-view.view-iterator _ c.next.new.self _
+    IsWithin-at c.args.block.now c.args.key.now c.loop-view.view-iterator _ c.next.new.self _ _ _ _
     c.loop-view.invariant.placed c.in-Some.ensures.steps refl c.loop-view.invariant.within
     (omega arith)
 
@@ -104,9 +108,10 @@ returns-then-same-view-clause-found c height es q p =
 
 pub returns-then-view-same-clause-within : goal.returns-then-view-same-clause-within
 returns-then-view-same-clause-within c =
-    IsWithin-at c.args.block.now c.args.key.now c.loop-view.view-iterator _ c.next.new.self _
-    c.loop-view.invariant.placed c.in-Some.ensures.steps (ap (λ p. p.offset) c.above-then-view-same.ensures) (omega (arith, ap (λ p. p.shared) c.above-then-view-same.ensures, c.loop-view.invariant.within))
-    (omega (arith, ap (λ p. p.next_shared) c.above-then-view-same.ensures, c.shared_len-same.ensures.within_second, ap length (take_rest c.args.key.now c.loop-view.shared), length-drop c.loop-view.shared c.args.key.now, c.loop-view.invariant.within))
+    IsWithin-at c.args.block.now c.args.key.now c.loop-view.view-iterator _ c.next.new.self c.above-then-view-same.result _ _ _
+    c.loop-view.invariant.placed c.in-Some.ensures.steps c.above-then-view-same.ensures c.loop-view.invariant.within
+    (within-key c.args.key.now c.loop-view.shared _ c.loop-view.invariant.within
+    c.shared_len-same.ensures.within_second)
 
 pub returns-then-view-same-clause-found : goal.returns-then-view-same-clause-found
 returns-then-view-same-clause-found c height es q p =
@@ -124,13 +129,8 @@ loop-view-preserved c = record {
   next = tt;
   finite = tt;
   within =
-      omega (
-        arith,
-        c.shared_len-same.ensures.within_second,
-        ap length (take_rest c.args.key.now c.loop-view.shared),
-        length-drop c.loop-view.shared c.args.key.now,
-        c.loop-view.invariant.within,
-      );
+      within-key c.args.key.now c.loop-view.shared _ c.loop-view.invariant.within
+      c.shared_len-same.ensures.within_second;
   placed =
       All-rest (StandsIn c.args.block.now) _ c.next.new.self c.loop-view.view-iterator c.in-Some.ensures.steps
       c.loop-view.invariant.placed;

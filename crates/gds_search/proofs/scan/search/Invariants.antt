@@ -1,4 +1,4 @@
-use Rattle.std.proofs.Common.{ℕ, List, ◌≡◌, ◌≤◌, length}
+use Rattle.std.proofs.Common.{ℕ, List, ◌≤◌, length}
 use Rattle.std.specs.Prelude.{All}
 use Rattle.gds_block.specs.Record.{StandsIn}
 use Rattle.gds_block.specs.Item.{Item}

@@ -1,4 +1,4 @@
-use Rattle.std.proofs.Common.{◌∷◌, [], ◌++◌, ap, ◌∙◌, arith}
+use Rattle.std.proofs.Common.{◌+◌, ◌^◌, ◌≤◌, ◌∷◌, [], ◌++◌, length, ap, ◌∙◌, arith}
 use Rattle.gds_images.proofs.BufferLemmas.{buffer_count, buffer_length, buffer_pushed, few_images}
 use Rattle.gds_images.specs.Group.{Image, images_in}
 use Rattle.std.proofs.Common.{drop}
@@ -17,13 +17,19 @@ overflow_add-self c =
 
 pub invariant_of-self-2 : goal.invariant_of-self-2
 invariant_of-self-2 c =
+    let fits = c.if-len-bytes-gt-MAX_BUFFER.false in
+    let same = c.self.inside.bytes.ok.0 in
+    let small : length c.self.inside.bytes.items + 12 + length c.args.bytes.now ≤ 2 ^ 62 = omega arith in
     (buffer_pushed c.self.inside.count c.self.inside.bytes.items c.push_image.new.buffer.items
     (record { at = c.args.at; bytes = c.args.bytes.now }) c.self.invariant
-    (record { at = c.ranges.at.fits; short = c.requires }) c.in_ok-push_image.ensures.ok).1
+    (record { at = c.ranges.at.fits; short = c.requires }) small c.in_ok-push_image.ensures.ok).1
 
 pub returns-clause-ok : goal.returns-clause-ok
 returns-clause-ok c =
+    let fits = c.if-len-bytes-gt-MAX_BUFFER.false in
+    let same = c.self.inside.bytes.ok.0 in
+    let small : length c.self.inside.bytes.items + 12 + length c.args.bytes.now ≤ 2 ^ 62 = omega arith in
     let image : Image = record { at = c.args.at; bytes = c.args.bytes.now } in
     (buffer_pushed c.self.inside.count c.self.inside.bytes.items c.push_image.new.buffer.items image c.self.invariant
-    (record { at = c.ranges.at.fits; short = c.requires }) c.in_ok-push_image.ensures.ok).0
+    (record { at = c.ranges.at.fits; short = c.requires }) small c.in_ok-push_image.ensures.ok).0
     ∙ ap (λ xs. xs ++ image ∷ []) c.self.view_is

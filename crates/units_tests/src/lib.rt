@@ -1,0 +1,7 @@
+//! The tests of what makes units of a database file durable, over hosts in memory.
+#![tactic(auto)]
+
+#[cfg(test)]
+mod chains;
+#[cfg(test)]
+mod recovery;
