@@ -1,13 +1,13 @@
 -- A block of which the tail was moved, and where a piece was put before the tail.
-use Rattle.std.proofs.Common.{ℕ, ◌≡◌, ◌+◌, ◌-◌, ◌≤◌, ◌<◌, ◌^◌, List, [], ◌∷◌, ◌++◌, length, get_or, take, drop, refl, sym}
+use Rattle.std.proofs.Common.{ℕ, ◌≡◌, ◌+◌, ◌-◌, ◌≤◌, ◌<◌, List, [], ◌++◌, length, get_or, take, drop, sym}
 use Rattle.std.proofs.Common.{◌∙◌, ap, arith, append_assoc, length-append, length-take, length-drop, subst}
 use Rattle.std.specs.declared.result.Result.{Result}
 use Rattle.std.specs.declared.result.Result.TheVariants.{Err}
-use Rattle.std.proofs.lemmas.List.{take_at, drop_at, drop-drop, drop-take, take-take, get_or-take, append-nil}
+use Rattle.std.proofs.lemmas.List.{take_at, drop_at, drop-drop, drop-take, take-take, get_or-take}
 use Rattle.std.proofs.Math.Seq.{take-append-add}
-use Rattle.std.proofs.lemmas.List.{drop-append-le, take-append-drop}
-use Rattle.gds_block.specs.Block.{IsBlock, version_of, reserved_of, level_of, used_of, tn_of}
-use Rattle.gds_block.specs.Fields.{u32_at, u64_at, u32_bytes, with_bytes}
+use Rattle.std.proofs.lemmas.List.{take-append-drop}
+use Rattle.gds_block.specs.Block.{version_of, used_of, tn_of}
+use Rattle.gds_block.specs.Fields.{u64_at, u32_bytes, with_bytes}
 use Rattle.gds_block.specs.Item.{Item}
 use Rattle.gds_block.proofs.FieldLemmas.{u16_at-front, u64_at-front, u32_at-front, u32_at-here, length-with_bytes}
 use Rattle.gds_block.proofs.FieldLemmas.{length-u32_bytes}
@@ -19,7 +19,7 @@ use Rattle.gds_edit.specs.Edited.{IsEdited, IsMoved, IsEdit}
 use Rattle.gds_edit.specs.declared.error.EditError.{EditError}
 use Rattle.gds_edit.specs.declared.error.EditError.TheVariants.{NoRoom}
 use Rattle.gds_edit.proofs.PutLemmas.{take-with_bytes_below, drop-with_bytes_from}
-use Rattle.gds_edit.proofs.PlaceLemmas.{left_before, left_behind, used_parts, records_bytes-append}
+use Rattle.gds_edit.proofs.PlaceLemmas.{left_before, used_parts, records_bytes-append}
 
 -- ---- the head
 

@@ -1,15 +1,15 @@
 -- An entry's record put before another's.
-use Rattle.std.proofs.Common.{ℕ, zero, suc, ◌≡◌, ◌+◌, ◌-◌, ◌≤◌, ◌<◌, ◌^◌, min, List, [], ◌∷◌, ◌++◌, length, take, drop, refl, sym}
+use Rattle.std.proofs.Common.{ℕ, zero, suc, ◌≡◌, ◌+◌, ◌-◌, ◌≤◌, List, [], ◌∷◌, ◌++◌, length, take, drop, refl, sym}
 use Rattle.std.proofs.Common.{◌∙◌, ap, subst, arith, append_assoc, length-append, length-take, length-drop}
 use Rattle.std.specs.declared.result.Result.{Result}
-use Rattle.std.proofs.lemmas.List.{drop_at, drop-drop, drop_all, append-nil}
+use Rattle.std.proofs.lemmas.List.{drop-drop, drop_all, append-nil}
 use Rattle.gds_block.specs.Block.{used_of}
 use Rattle.gds_block.specs.Fields.{u16_at, u16_bytes, with_bytes}
 use Rattle.gds_block.specs.Item.{Item}
 use Rattle.gds_block.proofs.FieldLemmas.{length-u16_bytes}
 use Rattle.m_key.specs.KeyEnd.{shared}
-use Rattle.m_key.proofs.KeyEndLemmas.{shared-le, shared-nil}
-use Rattle.gds_pack.specs.Packed.{record_size, record_bytes, records_size, records_bytes, packed_size, key_behind, first_key}
+use Rattle.m_key.proofs.KeyEndLemmas.{shared-le}
+use Rattle.gds_pack.specs.Packed.{record_size, record_bytes, records_bytes, packed_size, key_behind, first_key}
 use Rattle.gds_pack.specs.Packable.{ArePackable, AreLeaves, AreIndex}
 use Rattle.gds_pack.proofs.SizeLemmas.{length-record_bytes, records_size-append}
 use Rattle.gds_pack.proofs.BoundLemmas.{share}

@@ -1,16 +1,15 @@
 -- What stands at the place of an entry of a packed block.
-use Rattle.std.proofs.Common.{ℕ, ◌≡◌, ◌+◌, ◌-◌, ◌≤◌, ◌<◌, ◌^◌, List, [], ◌∷◌, ◌++◌, length, take, drop, refl, sym, ◌∙◌, ap}
-use Rattle.std.proofs.Common.{arith, append_assoc, length-append, length-take, length-drop}
-use Rattle.std.proofs.lemmas.List.{take_at, drop_at, drop-drop, drop-append-le, append-nil}
+use Rattle.std.proofs.Common.{ℕ, ◌≡◌, ◌+◌, ◌≤◌, List, [], ◌∷◌, ◌++◌, length, take, drop, refl, sym, ◌∙◌, ap}
+use Rattle.std.proofs.Common.{arith, append_assoc, length-append, length-drop}
+use Rattle.std.proofs.lemmas.List.{take_at, drop_at, drop-drop, drop-append-le}
 use Rattle.gds_block.specs.Block.{used_of}
-use Rattle.gds_block.specs.Record.{bytes_left}
 use Rattle.gds_block.specs.Fields.{u16_at, u16_bytes}
 use Rattle.gds_block.specs.Item.{Item}
 use Rattle.gds_block.proofs.FieldLemmas.{length-u16_bytes, u16_at-here, u16_at-front}
 use Rattle.m_key.specs.KeyEnd.{shared}
 use Rattle.m_key.proofs.KeyEndLemmas.{shared-le}
 use Rattle.gds_pack.specs.Packed.{record_size, record_bytes, records_size, records_bytes, packed_size, key_behind}
-use Rattle.gds_pack.proofs.SizeLemmas.{length-record_bytes, length-records_bytes, records_size-append, length-key_behind}
+use Rattle.gds_pack.proofs.SizeLemmas.{length-records_bytes, records_size-append, length-key_behind}
 use Rattle.gds_search.specs.PackedBlock.{IsPackedBlock}
 use Rattle.gds_edit.specs.Reading.{StandsAt}
 

@@ -1,9 +1,9 @@
 -- Bytes that are put over others, one piece behind the other.
 use Rattle.std.proofs.Common.{ℕ, ◌≡◌, ◌+◌, ◌-◌, ◌≤◌, List, ◌++◌, length, take, drop, refl, sym, ◌∙◌, ap, arith}
 use Rattle.std.proofs.Common.{append_assoc, length-append, length-take, length-drop}
-use Rattle.std.proofs.lemmas.List.{take-append-drop, take_at, drop_at, drop-drop, drop-take, take-take}
+use Rattle.std.proofs.lemmas.List.{take-append-drop, take_at, drop_at, drop-drop, take-take}
 use Rattle.gds_block.specs.Fields.{with_bytes}
-use Rattle.gds_block.proofs.FieldLemmas.{put_behind, length-with_bytes}
+use Rattle.gds_block.proofs.FieldLemmas.{put_behind}
 
 module _ (old piece : List ℕ) (at : ℕ) (fits : at + length piece ≤ length old) where
   pub take-with_bytes : take (at + length piece) (with_bytes old at piece) ≡ take at old ++ piece

@@ -1,18 +1,18 @@
 -- An entry taken out, and the record behind it packed behind the key before both.
-use Rattle.std.proofs.Common.{ℕ, zero, suc, ◌≡◌, ◌+◌, ◌-◌, ◌≤◌, ◌<◌, ◌^◌, List, [], ◌∷◌, ◌++◌, length, take, drop, refl, sym}
+use Rattle.std.proofs.Common.{ℕ, ◌≡◌, ◌+◌, ◌-◌, ◌≤◌, List, [], ◌∷◌, ◌++◌, length, take, drop, sym}
 use Rattle.std.proofs.Common.{inl, inr, ◌∙◌, ap, subst, arith, append_assoc, length-append, length-take, length-drop}
 use Rattle.std.proofs.lemmas.Bool.{cases_lt}
-use Rattle.std.proofs.lemmas.List.{take_at, drop_at, drop-drop, drop-take, drop_all, append-nil, take-append-drop}
-use Rattle.std.proofs.lemmas.List.{take-append-le, drop-append-le}
+use Rattle.std.proofs.lemmas.List.{drop-drop, drop-take, drop_all, take-append-drop}
+use Rattle.std.proofs.lemmas.List.{take-append-le}
 use Rattle.gds_block.specs.Block.{used_of}
 use Rattle.gds_block.specs.Fields.{u16_at, u16_bytes, with_bytes}
 use Rattle.gds_block.specs.Item.{Item}
 use Rattle.gds_block.proofs.FieldLemmas.{length-u16_bytes}
 use Rattle.m_key.specs.KeyEnd.{shared}
 use Rattle.m_key.proofs.KeyEndLemmas.{shared-le, take-shared}
-use Rattle.gds_pack.specs.Packed.{record_size, record_bytes, records_size, records_bytes, packed_size, key_behind}
+use Rattle.gds_pack.specs.Packed.{record_size, record_bytes, records_bytes, packed_size, key_behind}
 use Rattle.gds_pack.specs.Packable.{ArePackable}
-use Rattle.gds_pack.proofs.SizeLemmas.{length-record_bytes, records_size-append, key_behind-append}
+use Rattle.gds_pack.proofs.SizeLemmas.{records_size-append, key_behind-append}
 use Rattle.gds_pack.proofs.BoundLemmas.{share}
 use Rattle.gds_search.specs.PackedBlock.{IsPackedBlock}
 use Rattle.gds_search.specs.Place.{IsPlaceFor}
@@ -21,7 +21,7 @@ use Rattle.gds_edit.specs.Reading.{StandsAt}
 use Rattle.gds_edit.specs.Edited.{IsEdited, IsMoved}
 use Rattle.gds_edit.proofs.SharedLemmas.{shared-neighbours}
 use Rattle.gds_edit.proofs.PutLemmas.{with_bytes-kept}
-use Rattle.gds_edit.proofs.PlaceLemmas.{record_bytes-parts, record_bytes-behind, stands_here, ends_here, used_parts}
+use Rattle.gds_edit.proofs.PlaceLemmas.{record_bytes-parts, record_bytes-behind, stands_here, ends_here}
 use Rattle.gds_edit.proofs.PlaceLemmas.{stands, size_here, count_here}
 use Rattle.gds_edit.proofs.EditLemmas.{IsEdited-put, kept_bytes}
 

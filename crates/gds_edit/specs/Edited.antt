@@ -1,5 +1,5 @@
 -- What an edit leaves.
-use Rattle.std.specs.Prelude.{ℕ, ◌≡◌, ◌<◌, ◌≤◌, ◌+◌, ◌-◌, ◌⊎◌, List, [], ◌∷◌, length, take, drop, OnOk, IfErr}
+use Rattle.std.specs.Prelude.{ℕ, ◌≡◌, ◌<◌, ◌≤◌, ◌+◌, ◌-◌, ◌⊎◌, List, [], length, take, drop, OnOk, IfErr}
 use Rattle.std.specs.declared.result.Result.{Result}
 use Rattle.gds_block.specs.Block.{version_of, reserved_of, used_of, tn_of}
 use Rattle.gds_block.specs.Item.{Item}

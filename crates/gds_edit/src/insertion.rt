@@ -18,12 +18,7 @@ use gds_search::Place;
 /// Puts an entry with a key and a rest in at the place of the key.
 ///
 /// Of a packed block that can have the entry the answer is `NoRoom` exactly where the entries don't fit.
-pub fn insert(
-    block: &mut [u8],
-    place: &Place,
-    key: &[u8],
-    rest: &[u8],
-) -> Result<(), EditError>
+pub fn insert(block: &mut [u8], place: &Place, key: &[u8], rest: &[u8]) -> Result<(), EditError>
     ensures inserted { (height : ℕ) (es a b : List Item) → IsPackedBlock block.old height es
         → IsPlaceFor es key.now place.now a b
         → ArePackable height (a ++ record { key = key.now; rest = rest.now } ∷ b)

@@ -1,4 +1,4 @@
-use Rattle.std.proofs.Common.{◌≡◌, ◌∙◌, sym, ap, subst, arith}
+use Rattle.std.proofs.Common.{◌∙◌, sym, ap, subst, arith}
 use Rattle.gds_edit.specs.Reading.{StandsAt}
 use Rattle.gds_edit.proofs.InsertLemmas.{fits_key, IsRecordFor-place, entry_there, more_there, last_there, before_there}
 use Rattle.gds_edit.proofs.insertion.insert.Goals as goal

@@ -41,21 +41,21 @@ returns-clause-inserted c =
     record {
       done =
           IsEdited-before c.args.block.now height a b e n packed c.args.at c.args.used c.args.more place all more
-              c.push_tail.new.block c.put-2.new.out c.saturating_add.result end m
-              (omega (
-                arith,
-                size,
-                m.fits,
-                c.saturating_add-end.ensures,
-                c.saturating_add.ensures,
-                c.size.ensures,
-                c.requires.short,
-              ))
-              (omega (arith, m.fits, c.saturating_add.ensures, c.requires.short))
-              (c.put-2.ensures
-              ∙ (λ k. with_bytes (c.put.ensures k) end (u16_bytes (sized k) ++ u16_bytes (shares k)))
-              ∙ ap (λ xs. with_bytes (with_bytes c.push_tail.new.block c.args.at xs) end
-              (u16_bytes (record_size e.key n) ++ u16_bytes (shared e.key n.key))) bytes)
-              packable;
+          c.push_tail.new.block c.put-2.new.out c.saturating_add.result end m
+          (omega (
+            arith,
+            size,
+            m.fits,
+            c.saturating_add-end.ensures,
+            c.saturating_add.ensures,
+            c.size.ensures,
+            c.requires.short,
+          ))
+          (omega (arith, m.fits, c.saturating_add.ensures, c.requires.short))
+          (c.put-2.ensures
+          ∙ (λ k. with_bytes (c.put.ensures k) end (u16_bytes (sized k) ++ u16_bytes (shares k)))
+          ∙ ap (λ xs. with_bytes (with_bytes c.push_tail.new.block c.args.at xs) end
+          (u16_bytes (record_size e.key n) ++ u16_bytes (shared e.key n.key))) bytes)
+          packable;
       full = tt;
     }

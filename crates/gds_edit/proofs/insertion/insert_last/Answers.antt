@@ -1,4 +1,4 @@
-use Rattle.std.proofs.Common.{◌≡◌, ◌∙◌, sym, ap, arith}
+use Rattle.std.proofs.Common.{◌∙◌, ap, arith}
 use Rattle.std.proofs.lemmas.Result.{err_from_is_err_and}
 use Rattle.gds_block.specs.Fields.{with_bytes}
 use Rattle.gds_edit.proofs.EditLemmas.{IsEdit-refused}
@@ -30,9 +30,9 @@ returns-clause-inserted c =
     record {
       done =
           IsEdited-last c.args.block.now height a e packed c.args.used all c.push_tail.new.block c.put.new.out
-              c.saturating_add-end.result m
-              (omega (arith, size, m.fits, c.saturating_add-end.ensures, c.size.ensures, c.requires.short))
-              (c.put.ensures ∙ ap (with_bytes c.push_tail.new.block c.args.used) (bytes-new _ e c.args.fresh is))
-              packable;
+          c.saturating_add-end.result m
+          (omega (arith, size, m.fits, c.saturating_add-end.ensures, c.size.ensures, c.requires.short))
+          (c.put.ensures ∙ ap (with_bytes c.push_tail.new.block c.args.used) (bytes-new _ e c.args.fresh is))
+          packable;
       full = tt;
     }

@@ -1,4 +1,4 @@
-use Rattle.std.proofs.Common.{◌≡◌, ◌+◌, ◌∙◌, sym, ap, subst, arith}
+use Rattle.std.proofs.Common.{◌+◌, ◌∙◌, sym, ap, subst, arith}
 use Rattle.std.proofs.lemmas.Result.{err_from_is_err_and}
 use Rattle.gds_block.specs.Fields.{with_bytes}
 use Rattle.gds_edit.specs.Reading.{StandsAt}
@@ -41,12 +41,12 @@ returns-clause-replaced c =
     record {
       done =
           replaced c.args.block.now height key es a b e c.args.rest.now c.args.place.now packed spot keyed packable
-              c.in-Some-record_head.head.size c.in-Some-record_head.head.count c.in-Some-key_part.key c.in-Some.used
-              c.saturating_add-end.result (ap (λ h. h.size) head) (ap (λ h. h.count) head) c.in-Some.ensures.1
-              c.in-Some-key_part.ensures.part.0 c.saturating_add-end.ensures c.push_tail.new.block c.put_bytes.new.out
-              c.in_ok-push_tail.ensures.moved
-              (c.put_bytes.ensures
-              ∙ ap (λ xs. with_bytes xs (c.args.place.now.offset + 4 + c.in-Some-key_part.key) c.args.rest.now)
-              c.put_u16.ensures);
+          c.in-Some-record_head.head.size c.in-Some-record_head.head.count c.in-Some-key_part.key c.in-Some.used
+          c.saturating_add-end.result (ap (λ h. h.size) head) (ap (λ h. h.count) head) c.in-Some.ensures.1
+          c.in-Some-key_part.ensures.part.0 c.saturating_add-end.ensures c.push_tail.new.block c.put_bytes.new.out
+          c.in_ok-push_tail.ensures.moved
+          (c.put_bytes.ensures
+          ∙ ap (λ xs. with_bytes xs (c.args.place.now.offset + 4 + c.in-Some-key_part.key) c.args.rest.now)
+          c.put_u16.ensures);
       full = tt;
     }

@@ -1,4 +1,3 @@
-use Rattle.std.proofs.Common.{◌≡◌, ap, arith}
 use Rattle.gds_edit.proofs.EditLemmas.{IsMoved-copied}
 use Rattle.gds_edit.proofs.tail.move_tail.Goals as goal
 

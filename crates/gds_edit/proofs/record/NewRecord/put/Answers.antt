@@ -1,4 +1,4 @@
-use Rattle.std.proofs.Common.{◌≡◌, ◌+◌, ◌++◌, ◌∙◌, length, ap, arith, length-append}
+use Rattle.std.proofs.Common.{◌+◌, ◌++◌, ◌∙◌, length, ap, arith, length-append}
 use Rattle.gds_block.specs.Fields.{u16_bytes, with_bytes}
 use Rattle.gds_block.proofs.FieldLemmas.{length-u16_bytes}
 use Rattle.gds_edit.proofs.PutLemmas.{with_bytes-then}
