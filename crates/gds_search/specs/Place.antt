@@ -1,5 +1,5 @@
 -- The place of a key among the entries of a packed block.
-use Rattle.std.specs.Prelude.{ℕ, ◌≡◌, ◌≤◌, ◌⊎◌, All, List, [], ◌∷◌, ◌++◌, length}
+use Rattle.std.specs.Prelude.{ℕ, ◌≡◌, ◌≢◌, ◌≤◌, ◌⊎◌, All, List, [], ◌∷◌, ◌++◌, length}
 use Rattle.std.specs.Bool.{OnTrue, OnFalse}
 use Rattle.gds_block.specs.Block.{used_of}
 use Rattle.gds_block.specs.Item.{Item}
@@ -18,12 +18,16 @@ abbrev pub BeginsAbove : List ℕ → List Item → Type 0
 BeginsAbove key [] = Unit {0}
 BeginsAbove key (i ∷ is) = (i.key ≡ []) ⊎ Below key i.key
 
+-- The entry is below this key. The star never is.
+abbrev pub IsBelow : List ℕ → Item → Type 0
+IsBelow key i = (i.key ≢ []) × Below i.key key
+
 -- The place of a key in the block with these entries: those of `before` are below the key, and the first of `behind`
 -- is at or above it.
 pub record IsPlaceFor (es : List Item) (key : List ℕ) (place : Place) (before behind : List Item) : Type 0 where
   pub parts : es ≡ before ++ behind
   pub offset : place.offset ≡ packed_size before
-  pub below : All (λ i. Below i.key key) before
+  pub below : All (IsBelow key) before
   pub equal : OnTrue place.is_equal (BeginsAt key behind)
   pub above : OnFalse place.is_equal (BeginsAbove key behind)
   pub shares : place.shared ≡ shared (key_behind [] before) key
