@@ -5,3 +5,4 @@ pub mod EditLemmas
 pub mod ReplaceLemmas
 pub mod InsertLemmas
 pub mod RemoveLemmas
+pub mod PackableLemmas

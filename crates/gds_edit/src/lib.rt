@@ -4,6 +4,7 @@
 
 mod error;
 mod insertion;
+mod laws;
 mod reading;
 mod record;
 mod removal;
@@ -13,5 +14,6 @@ mod tail;
 pub use error::{EditError, Misplaced};
 pub use gds_search::Place;
 pub use insertion::insert;
+pub use laws::edits_are_packable;
 pub use removal::remove;
 pub use replacement::replace;
