@@ -11,6 +11,7 @@ use Rattle.std.specs.Cmp.Lexicographic.{slice_cmp}
 use Rattle.std.specs.declared.cmp.Ordering.TheVariants.{Less}
 use Rattle.gds_block.specs.Record.{Record, StandsIn, records_of}
 use Rattle.gds_block.specs.Item.{Item}
+use Rattle.m_key.specs.Key.{Below}
 use Rattle.m_key.specs.KeyEnd.{IsKey, shared}
 use Rattle.m_key.proofs.KeyEndLemmas.{shared-nil, take-shared, shared-le, length-key}
 use Rattle.gds_pack.specs.Packed.{record_size, packed_size, packed_record, packed_records, key_behind, first_key}
@@ -18,7 +19,7 @@ use Rattle.gds_pack.specs.Packable.{IsNext, AreLeaves, AreIndex, ArePackable}
 use Rattle.gds_pack.proofs.SizeLemmas.{records_size-append, key_behind-append}
 use Rattle.gds_pack.proofs.ReadLemmas.{IsBefore, neighbours, length-body}
 use Rattle.gds_search.specs.PackedBlock.{IsPackedBlock}
-use Rattle.gds_search.specs.Place.{IsPlace, IsWithin, IsBelow, BeginsAt, BeginsAbove}
+use Rattle.gds_search.specs.Place.{IsBelow, IsPlace, IsWithin, BeginsAt, BeginsAbove}
 use Rattle.gds_search.specs.declared.place.Place.{Place}
 use Rattle.gds_search.proofs.PackedLemmas.{records_of-packed}
 use Rattle.gds_search.proofs.OrderLemmas.{Stands, stands-above, stands-below, shared-stops, shared-itself}
@@ -216,8 +217,8 @@ module _ (es : List Item) (key : List ℕ) (height m : ℕ) (left : List Record)
         → IsReached es key height s rs
     goes_on keyed s stands =
         let P = IsBelow key in
-        let some : n.entry.key ≡ [] → ⊥ =
-        λ e. absurd (omega (arith, length-key n.entry.key keyed.next.is_key, ap length e)) in
+        let has_key : n.entry.key ≡ [] → ⊥ =
+        λ e. omega (arith, length-key n.entry.key keyed.next.is_key, ap length e) in
         let last : key_behind [] (at.before ++ n.entry ∷ []) ≡ n.entry.key =
         key_behind-append [] at.before (n.entry ∷ []) in
         let size : packed_size (at.before ++ n.entry ∷ []) ≡ start + record_size previous n.entry =
@@ -228,7 +229,7 @@ module _ (es : List Item) (key : List ℕ) (height m : ℕ) (left : List Record)
           parts = at.parts ∙ ap (λ is. at.before ++ is) n.split
               ∙ sym (append_assoc at.before (n.entry ∷ []) n.others);
           passed = All-append P at.before (n.entry ∷ []) at.passed
-              (All-cons P n.entry [] (some, ap is_lt stands.below) (All-nil P));
+              (All-cons P n.entry [] (has_key, ap is_lt stands.below) (All-nil P));
           rising = ap (λ k. slice_cmp nat_cmp k key) last ∙ stands.below;
           whole = subst IsBefore (sym last) (inr keyed.next.is_key);
           follows = subst (λ k. MayFollow height k n.others) (sym last) keyed.more;

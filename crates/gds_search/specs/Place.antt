@@ -8,19 +8,19 @@ use Rattle.m_key.specs.KeyEnd.{shared}
 use Rattle.gds_pack.specs.Packed.{packed_size, key_behind, first_key}
 use Rattle.gds_search.specs.declared.place.Place.{Place}
 
+-- The entry has a key, and that is below this one. The star, which has none, is above all keys.
+abbrev pub IsBelow : List ℕ → Item → Type 0
+IsBelow key i = (i.key ≢ []) × Below i.key key
+
 -- The first of these entries has this key.
 abbrev pub BeginsAt : List ℕ → List Item → Type 0
 BeginsAt key [] = ⊥
 BeginsAt key (i ∷ is) = i.key ≡ key
 
--- The first of these entries, if there is one, is above this key. The star, which has no key, is above all keys.
+-- The first of these entries, if there is one, is above this key: it is the star, or its key is.
 abbrev pub BeginsAbove : List ℕ → List Item → Type 0
 BeginsAbove key [] = Unit {0}
 BeginsAbove key (i ∷ is) = (i.key ≡ []) ⊎ Below key i.key
-
--- The entry is below this key. The star never is.
-abbrev pub IsBelow : List ℕ → Item → Type 0
-IsBelow key i = (i.key ≢ []) × Below i.key key
 
 -- The place of a key in the block with these entries: those of `before` are below the key, and the first of `behind`
 -- is at or above it.
