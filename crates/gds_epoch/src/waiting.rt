@@ -108,6 +108,7 @@ impl Waiting {
     /// Lets the units above this number go, as where a file ends with it. Their places stay reserved.
     pub fn drop_above(&mut self, last: u32)
         ensures dropped { self.new.units ≡ filter (λ waiting. nat_le waiting.unit last) self.old.units }
+        ensures rising { IsRising self.new.units }
         ensures room { self.old.room ≤ self.new.room }
     {
         let kept = self.units.partition_point(|waiting| waiting.unit <= last);

@@ -1,10 +1,9 @@
 -- What a crash leaves of units at rest, and of units on which nothing is written.
-use Rattle.std.proofs.Common.{◌≡◌, ◌⊎◌, ℕ, ◌≤◌, List, length, take, Option, None, Some, refl, sym, ap, subst, ◌∙◌, inl, inr, ⊎_elim}
-use Rattle.std.specs.Option.{ForSome}
+use Rattle.std.proofs.Common.{◌≡◌, ◌⊎◌, ℕ, ◌≤◌, List, Option, None, Some, refl, sym, ap, subst, ◌∙◌, inl, inr, ⊎_elim}
 use Rattle.std.specs.Prelude.{OnOk, Result, Ok, Err, option_map}
 use Rattle.host_model.specs.Disk.{SaysSome, during}
 use Rattle.host_model.specs.Files.{Contents}
-use Rattle.host_model.specs.Moments.{EachLeft, HasCome, LeavesBy, LeavesOnly, LeavesTheSame}
+use Rattle.host_model.specs.Moments.{EachLeft, HasCome, LeavesBy, LeavesTheSame}
 use Rattle.host_model.proofs.MomentLemmas.{no_call, same_only, then_more, weaker}
 use Rattle.host_model.proofs.FrameLemmas.{TellsOn-some}
 use Rattle.host_model.specs.Told.{TellsOn}
@@ -12,7 +11,7 @@ use Rattle.gds_images.specs.Outcome.{RecoversAsBefore, RecoversTo}
 use Rattle.gds_images.specs.Recovered.{recovered}
 use Rattle.gds_images.specs.Same.{IsSame}
 use Rattle.gds_images.proofs.SameLemmas.{same_equivalence}
-use Rattle.gds_epoch.specs.Epoch.{FindsEither, database_of}
+use Rattle.gds_epoch.specs.Epoch.{database_of}
 use Rattle.gds_epoch.specs.State.{Finds, Rests}
 use Rattle.gds_epoch.proofs.StateLemmas.{rest_finds}
 use Rattle.gds_epoch.specs.Waiting.{WaitingUnit, patched}
@@ -148,13 +147,31 @@ module _ {H : Type 0} (moment : H → ℕ) (left_since : H → ℕ → Contents 
         said = kept.said ∙ earlier.said;
       }
 
-  stores_then : (image text : List ℕ) (left : Contents → Type 0) (c : Contents)
+  pub stores_then : (image text : List ℕ) (left : Contents → Type 0) (c : Contents)
       → ((e : Contents) → left e → Stores image text e) → RecoversAsBefore left c → Stores image text c
   stores_then image text left c each kept =
       let earlier = each kept.earlier kept.was_left in record {
         recovers = carried image kept.earlier c kept.found earlier.recovers kept.recovered_then kept.recovers;
         said = kept.said ∙ earlier.said;
       }
+
+  -- what was found before, or an image
+  pub either_then : (old : H) (image text : List ℕ) (left : Contents → Type 0) (c : Contents)
+      → ((e : Contents) → left e → AsBefore moment left_since old e ⊎ Stores image text e) → RecoversAsBefore left c
+      → AsBefore moment left_since old c ⊎ Stores image text c
+  either_then old image text left c each kept = ⊎_elim
+      (λ (earlier : AsBefore moment left_since old kept.earlier). inl (record {
+        earlier = earlier.earlier;
+        was_left = earlier.was_left;
+        found = earlier.found;
+        recovered_then = earlier.recovered_then;
+        recovers = carried earlier.found kept.earlier c kept.found earlier.recovers kept.recovered_then kept.recovers;
+        said = kept.said ∙ earlier.said;
+      }))
+      (λ (stored : Stores image text kept.earlier). inr (record {
+        recovers = carried image kept.earlier c kept.found stored.recovers kept.recovered_then kept.recovers;
+        said = kept.said ∙ stored.said;
+      })) (each kept.earlier kept.was_left)
 
   module _ (old mid new : H) (second : Keeps moment left_since mid new) where
     -- what each crash leaves now was left at the middle
@@ -174,21 +191,8 @@ module _ {H : Type 0} (moment : H → ℕ) (left_since : H → ℕ → Contents 
         let P : Contents → Type 0 = λ c. AsBefore moment left_since old c ⊎ Stores image text c in
         then_more moment left_since old mid new P first
         (weaker moment left_since mid new (AsBefore moment left_since mid) P
-        (λ c kept. let before = first.each kept.earlier
-        (longer mid (moment old) (moment mid) kept.earlier first.later kept.was_left) in
-        ⊎_elim
-        (λ (earlier : AsBefore moment left_since old kept.earlier). inl (record {
-          earlier = earlier.earlier;
-          was_left = earlier.was_left;
-          found = earlier.found;
-          recovered_then = earlier.recovered_then;
-          recovers = carried earlier.found kept.earlier c kept.found earlier.recovers kept.recovered_then kept.recovers;
-          said = kept.said ∙ earlier.said;
-        }))
-        (λ (stored : Stores image text kept.earlier). inr (record {
-          recovers = carried image kept.earlier c kept.found stored.recovers kept.recovered_then kept.recovers;
-          said = kept.said ∙ stored.said;
-        })) before) second)
+        (λ c kept. either_then old image text (left_since mid (moment mid)) c
+        (λ e left. first.each e (longer mid (moment old) (moment mid) e first.later left)) kept) second)
 
     pub stored_then : (image text : List ℕ) → IsStored moment left_since image text mid
         → IsStored moment left_since image text new

@@ -1,12 +1,12 @@
 -- What is known of units after a call on their host.
-use Rattle.std.proofs.Common.{◌≡◌, ◌⊎◌, ℕ, ◌+◌, ◌-◌, ◌^◌, ◌<◌, ◌≤◌, Bool, true, false, List, [], length, take, Option, None, Some}
+use Rattle.std.proofs.Common.{◌≡◌, ◌⊎◌, ℕ, ◌-◌, ◌^◌, ◌<◌, ◌≤◌, Bool, true, false, List, [], length, take, Option, None, Some}
 use Rattle.std.proofs.Common.{refl, sym, ap, subst, ◌∙◌, arith, length-take, replicate, inl, inr, true≢false, ◌∷◌}
 use Rattle.std.specs.Option.{ForSome}
 use Rattle.std.specs.Prelude.{All, option_map}
 use Rattle.std.proofs.lemmas.List.{length-replicate, take-take}
 use Rattle.std.proofs.lemmas.List.Elements.{All-nil, All-weaker}
 use Rattle.host_model.specs.Files.{Contents}
-use Rattle.host_model.specs.Moments.{EachLeft, HasCome, LeavesTheSame}
+use Rattle.host_model.specs.Moments.{EachLeft, HasCome}
 use Rattle.host_model.specs.Disk.{written}
 use Rattle.host_model.specs.Told.{TellsOn}
 use Rattle.host_model.proofs.FileLemmas.{length-written}
@@ -35,7 +35,7 @@ inside_more size n m units le inside =
     (λ w is. record { size = is.size; within = omega (arith, is.within, le) }) units inside
 
 -- a shorter front of files that begin alike
-front_less : (m n : ℕ) (a b : List ℕ) → m ≤ n → take n b ≡ take n a → take m b ≡ take m a
+pub front_less : (m n : ℕ) (a b : List ℕ) → m ≤ n → take n b ≡ take n a → take m b ≡ take m a
 front_less m n a b le same = sym (take-take m n b le) ∙ ap (take m) same ∙ take-take m n a le
 
 -- ---- A call that keeps the front of the database file, as far as the image goes.
@@ -197,6 +197,7 @@ module _ {H : Type 0} {told : H → Option Contents} {moment : H → ℕ} {left_
         places = record {
           limits = are.places.limits;
           epoch = omega (arith, within, now);
+          blocks = are.places.blocks;
           now = omega (arith, now, is_n);
           short = short;
           inside = are.places.inside;
@@ -263,6 +264,7 @@ module _ {H : Type 0} {told : H → Option Contents} {moment : H → ℕ} {left_
         places = record {
           limits = places.limits;
           epoch = omega (arith, places.now, is_n);
+          blocks = record { blocks = h.total; ends = is_n };
           now = places.now;
           short = places.short;
           inside = inside (file_length_of h);
@@ -316,6 +318,7 @@ module _ {H : Type 0} {told : H → Option Contents} {moment : H → ℕ} {left_
         places = record {
           limits = places.limits;
           epoch = places.epoch;
+          blocks = places.blocks;
           now = places.now;
           short = places.short;
           inside = places.inside;

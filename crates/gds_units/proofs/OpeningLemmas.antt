@@ -1,18 +1,15 @@
 -- What is known of units right after they were opened.
-use Rattle.std.proofs.Common.{◌≡◌, ℕ, ◌*◌, ◌+◌, ◌^◌, ◌<◌, ◌≤◌, false, List, [], length, take, Option, None, Some, refl, sym, ap}
-use Rattle.std.proofs.Common.{subst, ◌∙◌, arith, inl}
+use Rattle.std.proofs.Common.{◌≡◌, ℕ, ◌^◌, ◌<◌, false, List, [], length, take, Option, None, refl, sym, ap}
+use Rattle.std.proofs.Common.{subst, ◌∙◌, arith}
 use Rattle.std.specs.Option.{ForSome}
-use Rattle.std.specs.Prelude.{option_map}
 use Rattle.std.proofs.lemmas.Nat.{mul-le}
 use Rattle.std.proofs.Math.Seq.{take-length}
 use Rattle.std.proofs.lemmas.List.Elements.{All-nil}
 use Rattle.host_model.specs.Files.{Contents}
-use Rattle.host_model.specs.Moments.{EachLeft}
-use Rattle.host_model.specs.Told.{TellsOn}
-use Rattle.gds_header.specs.Fields.{fields_of, file_length_of}
+use Rattle.gds_header.specs.Fields.{file_length_of}
 use Rattle.gds_header.specs.Kinds.{IsWithinLimits}
 use Rattle.gds_header.specs.declared.header.Header.{Header}
-use Rattle.gds_images.specs.Outcome.{IsAtRest, IsClosed, IsWhole}
+use Rattle.gds_images.specs.Outcome.{IsAtRest, IsWhole}
 use Rattle.gds_images.proofs.RestLemmas.{rest_found}
 use Rattle.gds_epoch.specs.Epoch.{IsImageOf, IsKept, database_of}
 use Rattle.gds_epoch.specs.State.{Rests}
@@ -20,13 +17,14 @@ use Rattle.gds_epoch.specs.Waiting.{LiesWithin, WaitingUnit}
 use Rattle.gds_images.specs.Group.{Image}
 use Rattle.gds_recovery.specs.Found.{IsOpened}
 use Rattle.gds_recovery.proofs.WorkLemmas.{was_told}
-use Rattle.gds_units.specs.Held.{AreInPlace, AreUnits, IsHeld, IsRecoverable, IsResting}
+use Rattle.gds_units.specs.Held.{AreUnits, IsHeld, IsRecoverable}
 use Rattle.gds_units.specs.Opening.{HoldsWhole, IsStable}
 
 -- A file of a header within the limits has a length of far less than 63 bits.
 pub file_length-short : (h : Header) → IsWithinLimits h → file_length_of h < 2 ^ 63
 file_length-short h limits =
-    let most = mul-le h.total h.block_size 1048576 65024 (omega (arith, limits.total_to, limits.limit_to)) limits.block_to in
+    let most =
+    mul-le h.total h.block_size 1048576 65024 (omega (arith, limits.total_to, limits.limit_to)) limits.block_to in
     omega (arith, most)
 
 module _ (h : Header) (c : Contents) (holds : HoldsWhole h c) where
@@ -68,6 +66,7 @@ module _ {H : Type 0} (told : H → Option Contents) (moment : H → ℕ) (left_
     places = record {
       limits = limits;
       epoch = omega arith;
+      blocks = record { blocks = h.total; ends = refl };
       now = omega arith;
       short = file_length-short h limits;
       inside = All-nil (LiesWithin h.block_size (file_length_of h));

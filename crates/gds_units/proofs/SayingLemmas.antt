@@ -1,5 +1,5 @@
 -- What a saying leaves of units.
-use Rattle.std.proofs.Common.{◌≡◌, ◌≤◌, ℕ, Bool, List, length, take, Option, None, Some, Result, Ok, Err, refl, sym, ap, subst, ◌∙◌}
+use Rattle.std.proofs.Common.{◌≡◌, ◌≤◌, ℕ, Bool, List, length, take, Option, None, Some, Result, Ok, Err, sym, ap, subst, ◌∙◌}
 use Rattle.std.specs.Prelude.{All}
 use Rattle.host_model.specs.Disk.{Follows, SaysSome}
 use Rattle.host_model.specs.Files.{Contents, Says}
@@ -10,10 +10,9 @@ use Rattle.gds_images.specs.Group.{Image}
 use Rattle.gds_images.specs.Outcome.{IsAtRest, IsWhole}
 use Rattle.gds_images.specs.Recovered.{recovered}
 use Rattle.gds_epoch.specs.Epoch.{IsImageOf, database_of}
-use Rattle.gds_epoch.specs.State.{Rests}
 use Rattle.gds_epoch.specs.Waiting.{WaitingUnit, patched}
 use Rattle.gds_epoch.proofs.ToldLemmas.{told_before}
-use Rattle.gds_units.specs.Held.{AreUnits, IsHeld, IsRecoverable}
+use Rattle.gds_units.specs.Held.{AreUnits, IsRecoverable}
 
 -- Both files stay.
 says_db : {T E : Type 0} (bytes : List ℕ) (result : Result T E) (c d : Contents) → Says bytes result c d → d.db ≡ c.db

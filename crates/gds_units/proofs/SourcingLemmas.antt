@@ -1,10 +1,11 @@
 -- The image as a source of units has it.
-use Rattle.std.proofs.Common.{◌≡◌, ℕ, ◌<◌, ◌≤◌, ◌+◌, Bool, List, [], ◌∷◌, ◌++◌, length, take, drop, Option, None, Some, IfSome, Result, Err}
-use Rattle.std.proofs.Common.{refl, sym, ap, subst, ◌∙◌, arith, length-take}
+use Rattle.std.proofs.Common.{◌≡◌, ℕ, ◌<◌, ◌≤◌, ◌+◌, List, [], ◌∷◌, ◌++◌, length, take, drop}
+use Rattle.std.proofs.Common.{Option, None, Some, IfSome, Result, Err}
+use Rattle.std.proofs.Common.{refl, ap, subst, arith, length-take}
 use Rattle.std.specs.Prelude.{All, option_map}
 use Rattle.std.specs.Option.{ForSome}
 use Rattle.std.proofs.lemmas.List.Elements.{All-append, All-drop, All-head, All-tail, All-take}
-use Rattle.host_model.specs.Disk.{Stays, written}
+use Rattle.host_model.specs.Disk.{written}
 use Rattle.host_model.specs.Files.{AreBytes, Contents}
 use Rattle.gds_header.specs.Fields.{file_length_of, image_length}
 use Rattle.gds_header.specs.declared.header.Header.{Header}
@@ -18,7 +19,7 @@ use Rattle.gds_units.specs.declared.error.UnitError.{UnitError}
 use Rattle.gds_units.specs.declared.error.UnitError.TheVariants as answer
 use Rattle.host_model.specs.Failures.{Failures}
 use Rattle.host_model.specs.declared.units.UnitTrouble.TheVariants as trouble
-use Rattle.gds_units.specs.Held.{AreInPlace, AreUnits, IsHeld}
+use Rattle.gds_units.specs.Held.{AreInPlace, IsHeld}
 use Rattle.gds_units.specs.State.{UnitsState, file_with, image_of}
 use Rattle.gds_units.proofs.HeldLemmas.{inside_more}
 
@@ -61,21 +62,6 @@ image_long (Some c) h units images epoch extent n long places held =
 pub of_state : {H : Type 0} (P : List ℕ → Type 0) (a b : UnitsState H) → a ≡ b → IfSome (image_of a) P
     → IfSome (image_of b) P
 of_state P a b same is = subst (λ s. IfSome (image_of s) P) same is
-
-module _ {H : Type 0} {told : H → Option Contents} {moment : H → ℕ} {left_since : H → ℕ → Contents → Type 0} where
-  -- Units stay units where their host was only read.
-  pub after_reading : {old new : H} {h : Header} {units : List WaitingUnit} {images : List Image} {epoch extent : ℕ}
-      {stopped : Bool} → AreUnits told moment left_since old h units images epoch extent stopped
-      → told new ≡ told old → Stays (left_since old (moment old)) (left_since new (moment new))
-      → AreUnits told moment left_since new h units images epoch extent stopped
-  after_reading are same stays = record {
-    places = are.places;
-    held = λ c tells. are.held c (sym same ∙ tells);
-    found = λ c tells d left. are.found c (sym same ∙ tells) d (stays d left);
-    resting = λ going c tells.
-        let resting = are.resting going c (sym same ∙ tells) in
-        record { each = λ d left. resting.each d (stays d left); old = resting.old };
-  }
 
 -- Where reading a unit ended since it has changed, the host tells nothing.
 pub changed_untold : (told : Option Contents) (before now : Failures) (error : UnitError) (unit : ℕ)

@@ -12,13 +12,15 @@ use Rattle.gds_images.specs.Recovered.{recovered}
 use Rattle.gds_epoch.specs.Epoch.{IsImageOf, IsKept, database_of}
 use Rattle.gds_epoch.specs.State.{Rests}
 use Rattle.gds_epoch.specs.Waiting.{LiesWithin, WaitingUnit, patched}
+use Rattle.gds_units.specs.Keeping.{EndsAtBlock}
 
 -- Whatever the host tells: the header keeps its limits, the file reaches as far as the last epoch's database and this
--- one do, the units that wait lie within this one, and their old bytes are kept.
+-- one do, the former ends where a block does, the units that wait lie within this one, and their old bytes are kept.
 pub record AreInPlace (h : Header) (epoch_length extent : ℕ) (images : List Image) (units : List WaitingUnit)
     : Type 0 where
   pub limits : IsWithinLimits h
   pub epoch : epoch_length ≤ extent
+  pub blocks : EndsAtBlock h.block_size epoch_length
   pub now : file_length_of h ≤ extent
   pub short : extent < 2 ^ 63
   pub inside : All (LiesWithin h.block_size (file_length_of h)) units

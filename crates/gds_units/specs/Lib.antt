@@ -6,3 +6,6 @@ pub mod Reading
 pub mod Ending
 pub mod Opening
 pub mod Laws
+pub mod Keeping
+pub mod Creating
+pub mod Example

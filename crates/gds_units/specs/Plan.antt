@@ -21,9 +21,14 @@ pub record IsPlan (h : Header) (extent : ℕ) (plan : List WaitingUnit) : Type 0
   pub block_size : (header_after h plan).block_size ≡ h.block_size
   pub grown : file_length_of (header_after h plan) ≤ extent
 
+-- the image that a plan makes of the database that a file begins with
+abbrev pub image_after : Header → List WaitingUnit → List ℕ → List ℕ
+image_after h plan file = take (file_length_of (header_after h plan)) (patched h.block_size plan file)
+
 -- The file with the plan's units in their places, as far as its header then says. Where that is no less than before it
 -- is so behind too.
 pub record IsCarriedOut (h : Header) (plan : List WaitingUnit) (old new : List ℕ) : Type 0 where
   pub len : length new ≡ length old
-  pub image : let n = file_length_of (header_after h plan) in take n new ≡ take n (patched h.block_size plan old)
+  pub fields : fields_of new ≡ header_after h plan
+  pub image : take (file_length_of (header_after h plan)) new ≡ image_after h plan old
   pub behind : h.total ≤ (header_after h plan).total → new ≡ patched h.block_size plan old

@@ -1,6 +1,6 @@
 -- What is left of units that were only read.
 use Rattle.std.specs.Prelude.{◌≡◌, ℕ}
-use Rattle.host_model.specs.Failures.{Failures, NeverFell}
+use Rattle.host_model.specs.Failures.{Failures}
 use Rattle.host_model.specs.Files.{Contents}
 use Rattle.host_model.specs.Frames.{WasRead}
 use Rattle.host_model.specs.Moments.{LeavesTheSame}

@@ -1,8 +1,10 @@
 ghost use Rattle.std.specs.Prelude.{◌≡◌};
+ghost use Rattle.gds_units.specs.Creating.{made_error};
 ghost use Rattle.gds_units.specs.Opening.{unit_error};
 ghost use Rattle.gds_units.specs.Reading.{trouble_of};
 ghost use Rattle.gds_units.specs.declared.error.UnitError.TheVariants.{WriteFault};
 
+use gds_create::CreateError;
 use gds_recovery::RecoveryError;
 use host_model::{Host, HostFailed, UnitTrouble};
 use thiserror::Error;
@@ -65,6 +67,19 @@ impl From<RecoveryError> for UnitError {
             RecoveryError::BadImages { at } => UnitError::BadImages { at },
             RecoveryError::Unsound { faults } => UnitError::Unsound { faults },
             RecoveryError::Changed { unit } => UnitError::Changed { unit },
+        }
+    }
+}
+
+impl From<CreateError> for UnitError {
+    ghost from_gives = { λ error whole. whole ≡ made_error error };
+
+    fn from(error: CreateError) -> UnitError {
+        match error {
+            CreateError::Memory => UnitError::Memory,
+            CreateError::ReadFault => UnitError::ReadFault,
+            CreateError::WriteFault => UnitError::WriteFault,
+            CreateError::NotEmpty => UnitError::NotEmpty,
         }
     }
 }

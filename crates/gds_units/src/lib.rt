@@ -7,9 +7,11 @@
 
 mod buffer;
 mod error;
+mod example;
 mod plan;
 mod units;
 
 pub use error::{Returned, SayFailed, UnitError};
+pub use example::{ExampleError, change_and_tell};
 pub use plan::Plan;
 pub use units::Units;

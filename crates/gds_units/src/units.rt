@@ -1,3 +1,5 @@
+mod committing;
+mod creating;
 mod durable;
 mod opening;
 mod reading;

@@ -153,8 +153,8 @@ impl<H: Host> Units<H> {
         ensures same { self.new ≡ record self.old { host = self.new.host } }
         ensures said { TellsOn (H.told self.old.host) (H.told self.new.host) (Says bytes.now result) }
         ensures untold { H.told self.old.host ≡ None → H.told self.new.host ≡ None }
-        ensures any_moment { WhereTold H.told self.old
-            (λ c image. KeepsSaying H.moment H.left_since bytes.now self.old.host self.new.host) }
+        ensures any_moment { ForSome (H.told self.old.host)
+            (λ _. KeepsSaying H.moment H.left_since bytes.now self.old.host self.new.host) }
         ensures failed { OnErr result (Rose (H.failures self.old.host).say (H.failures self.new.host).say) }
         ensures failures { NeverFell (H.failures self.old.host) (H.failures self.new.host) }
     {

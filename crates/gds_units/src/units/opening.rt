@@ -100,7 +100,11 @@ impl<H: Host> Units<H> {
         ensures image { ForSome (H.told host) (λ now. image_of result ≡ Some now.db) }
     {
         let length = header.file_length();
-        let Room { before, zeros, scratch } = room;
+        let Room {
+            before,
+            zeros,
+            scratch,
+        } = room;
         Units {
             host,
             header,

@@ -1,5 +1,4 @@
-use Rattle.std.proofs.Common.{◌≤◌, arith, length}
-use Rattle.std.specs.Prelude.{All}
+use Rattle.std.proofs.Common.{◌≤◌, arith}
 use Rattle.std.proofs.lemmas.List.Elements.{All-weaker}
 use Rattle.gds_header.specs.Fields.{file_length_of}
 use Rattle.gds_epoch.specs.Waiting.{LiesWithin, WaitingUnit}

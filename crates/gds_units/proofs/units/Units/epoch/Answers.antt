@@ -1,4 +1,4 @@
-use Rattle.std.proofs.Common.{◌≡◌, ◌∙◌, length, sym, subst}
+use Rattle.std.proofs.Common.{◌∙◌, length, sym, subst}
 use Rattle.std.proofs.lemmas.Bool.{eqb-true}
 use Rattle.gds_units.specs.Durable.{IsStored, KeepsOrStores}
 use Rattle.gds_units.specs.State.{UnitsState, WhereTold}

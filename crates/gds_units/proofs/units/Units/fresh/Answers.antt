@@ -1,5 +1,3 @@
-use Rattle.std.proofs.Common.{◌≡◌, sym, subst, ◌∙◌, ap, refl}
-use Rattle.gds_units.specs.Held.{AreUnits}
 use Rattle.gds_units.proofs.OpeningLemmas.{fresh_units, units_are}
 use Rattle.gds_units.proofs.units.Units.fresh.Goals as goal
 

@@ -1,6 +1,5 @@
-use Rattle.std.proofs.Common.{◌≡◌, ◌≤◌, sym, ap, subst, inl, refl, arith}
-use Rattle.host_model.specs.Told.{TellsOn}
-use Rattle.gds_units.specs.Durable.{Keeps, KeepsOrStores, KeptAllOrStored}
+use Rattle.std.proofs.Common.{ap, subst, inl}
+use Rattle.gds_units.specs.Durable.{Keeps}
 use Rattle.gds_units.specs.State.{UnitsState, WhereTold}
 use Rattle.gds_units.proofs.DurableLemmas.{keeps_or, kept_now, when_ok_always, where_moments, where_stored}
 use Rattle.gds_units.proofs.units.Units.grow.Goals.{else-file_length-self, then-file_length-self+in_ok-epoch}

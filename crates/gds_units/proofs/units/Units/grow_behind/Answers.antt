@@ -1,4 +1,4 @@
-use Rattle.std.proofs.Common.{◌≡◌, ◌∙◌, ◌≤◌, true, length, sym, ap, refl, subst, arith, replicate, ◌-◌}
+use Rattle.std.proofs.Common.{◌≡◌, ◌≤◌, true, sym, subst, arith, replicate, ◌-◌}
 use Rattle.std.specs.Prelude.{option_map}
 use Rattle.std.proofs.Math.Nat.{mul-le-mul_right}
 use Rattle.host_model.specs.Disk.{written}

@@ -1,7 +1,8 @@
-use Rattle.std.proofs.Common.{◌≡◌, subst}
+use Rattle.std.proofs.Common.{subst}
 use Rattle.host_model.proofs.MomentLemmas.{by_saying}
 use Rattle.gds_units.specs.Durable.{KeepsSaying}
-use Rattle.gds_units.specs.State.{UnitsState, WhereTold}
+use Rattle.std.specs.Option.{ForSome}
+use Rattle.gds_units.specs.State.{UnitsState}
 use Rattle.gds_units.proofs.DurableLemmas.{keeps_saying}
 use Rattle.gds_units.proofs.SayingLemmas.{after_saying}
 use Rattle.gds_units.proofs.units.Units.say.Goals as goal
@@ -17,9 +18,9 @@ pub returns-in_err-say-clause-any_moment : goal.returns-in_err-say-clause-any_mo
 returns-in_err-say-clause-any_moment g c =
     let h = g.H.Host in
     let u = c.self.inside in
-    subst (λ (s : UnitsState g.row.H.Denot). WhereTold h.told s
-    (λ x image. KeepsSaying h.moment h.left_since c.args.bytes.now s.host c.say.new.self)) c.self.view_is
-    (λ x tells image is. keeps_saying h.moment h.left_since c.args.bytes.now u.host c.say.new.self
+    subst (λ (s : UnitsState g.row.H.Denot). ForSome (h.told s.host)
+    (λ _. KeepsSaying h.moment h.left_since c.args.bytes.now s.host c.say.new.self)) c.self.view_is
+    (λ x tells. keeps_saying h.moment h.left_since c.args.bytes.now u.host c.say.new.self
     (c.self.invariant.found x tells)
     (by_saying h.moment h.left_since h.failures c.args.bytes.now u.host c.say.new.self c.say.ensures.called))
 
@@ -34,8 +35,8 @@ pub returns-clause-any_moment : goal.returns-clause-any_moment
 returns-clause-any_moment g c =
     let h = g.H.Host in
     let u = c.self.inside in
-    subst (λ (s : UnitsState g.row.H.Denot). WhereTold h.told s
-    (λ x image. KeepsSaying h.moment h.left_since c.args.bytes.now s.host c.say.new.self)) c.self.view_is
-    (λ x tells image is. keeps_saying h.moment h.left_since c.args.bytes.now u.host c.say.new.self
+    subst (λ (s : UnitsState g.row.H.Denot). ForSome (h.told s.host)
+    (λ _. KeepsSaying h.moment h.left_since c.args.bytes.now s.host c.say.new.self)) c.self.view_is
+    (λ x tells. keeps_saying h.moment h.left_since c.args.bytes.now u.host c.say.new.self
     (c.self.invariant.found x tells)
     (by_saying h.moment h.left_since h.failures c.args.bytes.now u.host c.say.new.self c.say.ensures.called))

@@ -1,5 +1,4 @@
-use Rattle.std.proofs.Common.{◌≡◌, ◌∙◌, ◌≤◌, true, length, sym, ap, refl, subst, arith}
-use Rattle.gds_header.specs.Fields.{file_length_of}
+use Rattle.std.proofs.Common.{◌≡◌, ◌∙◌, true, ap, subst, arith}
 use Rattle.gds_units.specs.Durable.{Keeps}
 use Rattle.gds_units.specs.State.{UnitsState, WhereTold, file_with, image_of}
 use Rattle.std.specs.Prelude.{option_map}

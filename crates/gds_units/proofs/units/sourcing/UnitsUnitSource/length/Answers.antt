@@ -1,14 +1,20 @@
-use Rattle.std.proofs.Common.{◌≡◌, ◌<◌, length, IfSome, subst, sym}
+use Rattle.std.proofs.Common.{◌≡◌, ◌<◌, length}
 use Rattle.std.specs.Prelude.{All}
-use Rattle.gds_header.specs.Fields.{file_length_of}
-use Rattle.gds_units.proofs.SourcingLemmas.{after_reading, image_bytes, image_long, of_state}
+use Rattle.gds_units.proofs.ReadingLemmas.{after_reading}
+use Rattle.gds_units.proofs.SourcingLemmas.{image_bytes, image_long, of_state}
 use Rattle.gds_units.proofs.units.sourcing.UnitsUnitSource.length.Goals as goal
 
 pub invariant_of-self : goal.invariant_of-self
-invariant_of-self g c = after_reading c.self.invariant c.len.ensures.kept.told c.len.ensures.kept.crash
+invariant_of-self g c =
+    let s = c.self.inside in
+    after_reading s.host c.len.new.self s.header s.waiting.units s.before s.epoch_length s.extent s.is_stopped
+    c.self.invariant c.len.ensures.kept.told c.len.ensures.kept.crash
 
 pub invariant_of-self-2 : goal.invariant_of-self-2
-invariant_of-self-2 g c = after_reading c.self.invariant c.len.ensures.kept.told c.len.ensures.kept.crash
+invariant_of-self-2 g c =
+    let s = c.self.inside in
+    after_reading s.host c.len.new.self s.header s.waiting.units s.before s.epoch_length s.extent s.is_stopped
+    c.self.invariant c.len.ensures.kept.told c.len.ensures.kept.crash
 
 pub returns-in_err-len-clause-bytes : goal.returns-in_err-len-clause-bytes
 returns-in_err-len-clause-bytes g c =
