@@ -159,6 +159,20 @@ fn a_longer_and_a_shorter_rest(rt: HostRuntime) -> Result<(), Fail> {
 }
 
 #[test]
+fn another_pointer_where_a_key_leads(rt: HostRuntime) -> Result<(), Fail> {
+    let wanted = block(
+        1,
+        1,
+        &[
+            (0, b"A\0\0\x03\0\0\0"),
+            (2, b"\xBF\x11\0\0\x05\0\0\0"),
+            (0, b"A\0\0\0"),
+        ],
+    )?;
+    check_replace(&rt, &mut pointers()?, b"A\0\x80\0\0", b"\x05\0\0\0", &wanted)
+}
+
+#[test]
 fn another_pointer_in_the_star(rt: HostRuntime) -> Result<(), Fail> {
     let wanted = block(
         1,
