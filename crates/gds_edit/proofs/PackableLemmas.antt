@@ -1,5 +1,5 @@
 -- A block may have what an edit gives it.
-use Rattle.std.proofs.Common.{ℕ, zero, suc, ◌≡◌, ◌⊎◌, inl, inr, List, [], ◌∷◌, ◌++◌, length, false, refl, sym, ◌∙◌, ap, subst, arith}
+use Rattle.std.proofs.Common.{ℕ, zero, suc, ◌≡◌, ◌⊎◌, inl, inr, List, [], ◌∷◌, ◌++◌, length, false, refl, ap, subst, arith}
 use Rattle.std.specs.Prelude.{All}
 use Rattle.std.specs.Bool.{OnFalse}
 use Rattle.std.specs.Ordering.{nat_cmp}
@@ -82,9 +82,11 @@ module _ (key rest : List ℕ) (is_key : IsKey key) where
       → BeginsAbove key b → AreLeaves p (a ++ b) → AreLeaves p (a ++ put_in ∷ b)
   leaves_more p [] [] low below above h = (next_put p low, tt)
   leaves_more p [] (j ∷ b) low below above h = (next_put p low, (next_above p j b h.0 above, h.1))
-  leaves_more p (x ∷ a) b low below above h =
-      (h.0, leaves_more x.key a b (Less-is_lt _ (All-head (IsBelow key) x a below).1) (All-tail (IsBelow key) x a below) above
-      h.1)
+  leaves_more p (x ∷ a) b low below above h = (
+    h.0,
+    leaves_more x.key a b (Less-is_lt _ (All-head (IsBelow key) x a below).1) (All-tail (IsBelow key) x a below) above
+        h.1,
+  )
 
   index_more : (p : List ℕ) (a b : List Item) → length rest ≡ 4 → slice_cmp nat_cmp p key ≡ Less
       → All (IsBelow key) a → BeginsAbove key b → AreIndex p (a ++ b) → AreIndex p (a ++ put_in ∷ b)
@@ -93,12 +95,18 @@ module _ (key rest : List ℕ) (is_key : IsKey key) where
   index_more p [] (j ∷ k ∷ b) four low below above h =
       (next_put p low, four, (next_above p j (k ∷ b) h.0 above, h.1, h.2))
   index_more p (x ∷ []) [] four low below above h = absurd ((All-head (IsBelow key) x [] below).0 h.0)
-  index_more p (x ∷ []) (j ∷ b) four low below above h =
-      (h.0, h.1, index_more x.key [] (j ∷ b) four (Less-is_lt _ (All-head (IsBelow key) x [] below).1)
-      (All-tail (IsBelow key) x [] below) above h.2)
-  index_more p (x ∷ y ∷ a) b four low below above h =
-      (h.0, h.1, index_more x.key (y ∷ a) b four (Less-is_lt _ (All-head (IsBelow key) x (y ∷ a) below).1)
-      (All-tail (IsBelow key) x (y ∷ a) below) above h.2)
+  index_more p (x ∷ []) (j ∷ b) four low below above h = (
+    h.0,
+    h.1,
+    index_more x.key [] (j ∷ b) four (Less-is_lt _ (All-head (IsBelow key) x [] below).1)
+        (All-tail (IsBelow key) x [] below) above h.2,
+  )
+  index_more p (x ∷ y ∷ a) b four low below above h = (
+    h.0,
+    h.1,
+    index_more x.key (y ∷ a) b four (Less-is_lt _ (All-head (IsBelow key) x (y ∷ a) below).1)
+        (All-tail (IsBelow key) x (y ∷ a) below) above h.2,
+  )
 
   pub ArePackable-more : (height : ℕ) (es a b : List Item) (place : Place) → ArePackable height es
       → IsPlaceFor es key place a b → place.is_equal ≡ false → (height ≡ 0) ⊎ (length rest ≡ 4)

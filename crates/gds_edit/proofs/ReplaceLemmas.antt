@@ -1,30 +1,38 @@
 -- An entry's rest in place of another.
-use Rattle.std.proofs.Common.{ℕ, ◌≡◌, ◌+◌, ◌-◌, ◌≤◌, ◌<◌, ◌^◌, min, List, [], ◌∷◌, ◌++◌, length, take, drop, refl, sym}
+use Rattle.std.proofs.Common.{ℕ, zero, suc, ◌≡◌, ◌+◌, ◌-◌, ◌≤◌, ◌<◌, ◌^◌, min, List, [], ◌∷◌, ◌++◌, length, take, drop, refl, sym}
 use Rattle.std.proofs.Common.{inl, inr, ◌∙◌, ap, subst, arith, append_assoc, length-append, length-drop}
+use Rattle.std.proofs.lemmas.Bool.{cases_order}
 use Rattle.std.proofs.lemmas.List.{take_at, drop_at, drop-drop}
-use Rattle.gds_block.specs.Block.{used_of}
+use Rattle.gds_block.specs.Block.{level_of, used_of}
 use Rattle.gds_block.specs.Fields.{u16_at, u16_bytes, with_bytes}
 use Rattle.gds_block.specs.Item.{Item}
 use Rattle.gds_block.proofs.FieldLemmas.{length-u16_bytes}
 use Rattle.m_key.specs.KeyEnd.{shared}
 use Rattle.m_key.proofs.KeyEndLemmas.{shared-le}
 use Rattle.gds_pack.specs.Packed.{record_size, record_bytes, records_bytes, packed_size, key_behind}
-use Rattle.gds_pack.specs.Packable.{ArePackable}
+use Rattle.gds_pack.specs.Packable.{AreIndex, ArePackable}
 use Rattle.gds_pack.proofs.SizeLemmas.{length-record_bytes, records_size-append}
 use Rattle.gds_search.specs.PackedBlock.{IsPackedBlock}
 use Rattle.gds_search.specs.Place.{IsPlaceFor}
 use Rattle.gds_search.specs.declared.place.Place.{Place}
 use Rattle.gds_search.proofs.OrderLemmas.{shared-itself}
 use Rattle.gds_edit.specs.Reading.{StandsAt}
-use Rattle.gds_edit.specs.Edited.{IsEdited, IsMoved, HasKeyOrIsStar}
+use Rattle.gds_edit.specs.Edited.{IsEdited, IsMoved}
 use Rattle.gds_edit.proofs.PutLemmas.{with_bytes-then, with_bytes-kept}
 use Rattle.gds_edit.proofs.PlaceLemmas.{record_bytes-parts, stands, stands_here, ends_here, size_here, count_here}
 use Rattle.gds_edit.proofs.EditLemmas.{IsEdited-put, kept_bytes}
 
--- The place tells how long the entry's key is.
-pub length-own_key : (key : List ℕ) (e : Item) → HasKeyOrIsStar key e → shared e.key key ≡ length e.key
-length-own_key key e (inl same) = ap (shared e.key) (sym same) ∙ shared-itself e.key
-length-own_key key e (inr none) = ap (λ k. shared k key) none ∙ sym (ap length none)
+index_rest : (p : List ℕ) (a b : List Item) (e : Item) → AreIndex p (a ++ e ∷ b) → length e.rest ≡ 4
+index_rest p [] [] e h = h.1
+index_rest p [] (j ∷ b) e h = h.1
+index_rest p (x ∷ []) b e h = index_rest x.key [] b e h.2
+index_rest p (x ∷ y ∷ a) b e h = index_rest x.key (y ∷ a) b e h.2
+
+-- Each rest of an index block is a pointer.
+length-pointer : (height : ℕ) (a b : List Item) (e : Item) → ArePackable height (a ++ e ∷ b) → (height ≡ 0 → ⊥)
+    → length e.rest ≡ 4
+length-pointer zero a b e h above = absurd (above refl)
+length-pointer (suc height) a b e h above = index_rest [] a b e h
 
 module _ (old : List ℕ) (height : ℕ) (a b : List Item) (e : Item) (rest : List ℕ)
     (packed : IsPackedBlock old height (a ++ e ∷ b))
@@ -129,7 +137,7 @@ module _ (old : List ℕ) (height : ℕ) (a b : List Item) (e : Item) (rest : Li
 
 -- What is asked of `replace`.
 module _ (old : List ℕ) (height : ℕ) (key : List ℕ) (es a b : List Item) (e : Item) (rest : List ℕ) (place : Place)
-    (packed : IsPackedBlock old height es) (spot : IsPlaceFor es key place a (e ∷ b)) (keyed : HasKeyOrIsStar key e)
+    (packed : IsPackedBlock old height es) (spot : IsPlaceFor es key place a (e ∷ b)) (keyed : height ≡ 0 → e.key ≡ key)
     (packable : ArePackable height (a ++ record e { rest = rest } ∷ b)) where
   parted : IsPackedBlock old height (a ++ e ∷ b)
   parted = subst (IsPackedBlock old height) spot.parts packed
@@ -141,21 +149,49 @@ module _ (old : List ℕ) (height : ℕ) (key : List ℕ) (es a b : List Item) (
   count_there : u16_at old (place.offset + 2) ≡ shared (key_behind [] a) e.key
   count_there = ap (λ k. u16_at old (k + 2)) spot.offset ∙ count_here old height a b e parted
 
-  key_there : place.next_shared ≡ length e.key
-  key_there = spot.next_shares ∙ length-own_key key e keyed
+  size_there : u16_at old place.offset ≡ record_size (key_behind [] a) e
+  size_there = ap (u16_at old) spot.offset ∙ size_here old height a b e parted
 
-  pub is_key_part : (u16_at old (place.offset + 2) ≤ place.next_shared)
+  -- In a leaf the place tells how long the entry's key is.
+  key_there : height ≡ 0 → place.next_shared ≡ length e.key
+  key_there leaf = spot.next_shares ∙ ap (shared e.key) (sym (keyed leaf)) ∙ shared-itself e.key
+
+  pub has_key : height ≡ 0 → (u16_at old (place.offset + 2) ≤ place.next_shared)
       × (4 + (place.next_shared - u16_at old (place.offset + 2)) ≤ u16_at old place.offset)
-  is_key_part =
+  has_key leaf =
       let le = shared-le (key_behind [] a) e.key in
-      let size = ap (u16_at old) spot.offset ∙ size_here old height a b e parted in
-      (omega (arith, count_there, key_there), omega (arith, count_there, key_there, size))
+      let long = key_there leaf in
+      (omega (arith, count_there, long), omega (arith, count_there, long, size_there))
 
-  module _ (size count n used to : ℕ) (sized : size ≡ u16_at old place.offset)
-      (counted : count ≡ u16_at old (place.offset + 2)) (all : used ≡ used_of old) (part : count + n ≡ place.next_shared)
+  pub has_pointer : (height ≡ 0 → ⊥) → 8 ≤ u16_at old place.offset
+  has_pointer above = omega (arith, size_there, length-pointer height a b e parted.packable above)
+
+  by_level : (n : ℕ) → (height ≡ 0 → u16_at old (place.offset + 2) + n ≡ place.next_shared)
+      → ((height ≡ 0 → ⊥) → n + 8 ≡ u16_at old place.offset) → u16_at old (place.offset + 2) + n ≡ length e.key
+  by_level n in_leaf in_index =
+      elim (cases_order height 0) [
+        | inl leaf ↦ in_leaf leaf ∙ key_there leaf
+        | inr d ↦
+            let above : height ≡ 0 → ⊥ = λ e. elim d [ inl l ↦ omega (arith, l, e) | inr l ↦ omega (arith, l, e) ] in
+            omega (
+              arith,
+              in_index above,
+              size_there,
+              count_there,
+              length-pointer height a b e parted.packable above,
+              shared-le (key_behind [] a) e.key,
+            )
+      ]
+
+  module _ (level size count n used to : ℕ) (same : level ≡ level_of old) (sized : size ≡ u16_at old place.offset)
+      (counted : count ≡ u16_at old (place.offset + 2)) (all : used ≡ used_of old)
+      (in_leaf : level ≡ 0 → count + n ≡ place.next_shared) (in_index : (level ≡ 0 → ⊥) → n + 8 ≡ size)
       (ends : to ≡ min (place.offset + 4 + n + length rest) (2 ^ 64 - 1)) where
     key_part : u16_at old (place.offset + 2) + n ≡ length e.key
-    key_part = ap (λ k. k + n) (sym counted) ∙ part ∙ key_there
+    key_part =
+        let level_is : level ≡ height = same ∙ packed.level in
+        by_level n (λ leaf. ap (λ k. k + n) (sym counted) ∙ in_leaf (level_is ∙ leaf))
+        (λ above. in_index (λ leaf. above (sym level_is ∙ leaf)) ∙ sized)
 
     pub too_long : length old < to + (used - (place.offset + size))
         → length old < packed_size (a ++ record e { rest = rest } ∷ b)

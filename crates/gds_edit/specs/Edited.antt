@@ -1,5 +1,5 @@
 -- What an edit leaves.
-use Rattle.std.specs.Prelude.{ℕ, ◌≡◌, ◌<◌, ◌≤◌, ◌+◌, ◌-◌, ◌⊎◌, List, [], length, take, drop, OnOk, IfErr}
+use Rattle.std.specs.Prelude.{ℕ, ◌≡◌, ◌<◌, ◌≤◌, ◌+◌, ◌-◌, List, length, take, drop, OnOk, IfErr}
 use Rattle.std.specs.declared.result.Result.{Result}
 use Rattle.gds_block.specs.Block.{version_of, reserved_of, used_of, tn_of}
 use Rattle.gds_block.specs.Item.{Item}
@@ -19,10 +19,6 @@ pub record IsEdited (old new : List ℕ) (height : ℕ) (es : List Item) : Type 
 pub record IsEdit {T : Type 0} (old new : List ℕ) (height : ℕ) (es : List Item) (answer : Result T EditError) : Type 0 where
   pub done : OnOk answer (IsEdited old new height es)
   pub full : IfErr answer (λ e. (e ≡ NoRoom) × (length old < packed_size es))
-
--- The entry has this key, or it has none, as the star.
-abbrev pub HasKeyOrIsStar : List ℕ → Item → Type 0
-HasKeyOrIsStar key e = (e.key ≡ key) ⊎ (e.key ≡ [])
 
 -- The used bytes from a place on were moved so that they begin at another, and the used count says where they end.
 pub record IsMoved (old new : List ℕ) (from to used : ℕ) : Type 0 where

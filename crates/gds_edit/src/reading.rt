@@ -1,5 +1,5 @@
 ghost use Rattle.std.specs.Prelude.{◌≡◌, ◌+◌, ◌<◌, ◌≤◌, ◌^◌, length, IfSome, SomeIff};
-ghost use Rattle.gds_block.specs.Block.{used_of};
+ghost use Rattle.gds_block.specs.Block.{level_of, used_of};
 ghost use Rattle.gds_block.specs.Fields.{u16_at};
 ghost use Rattle.gds_edit.specs.Reading.{IsEditable, StandsAt};
 
@@ -21,6 +21,13 @@ pub(crate) fn used_count(block: &[u8]) -> Option<usize>
         return None;
     }
     Some(used)
+}
+
+pub(crate) fn level(block: &[u8]) -> u8
+    requires { 16 ≤ length block.now }
+    ensures { result ≡ level_of block.now }
+{
+    block[3]
 }
 
 // The head of the record at a place, if it is behind the block's head and the record ends within the used bytes.
