@@ -1,7 +1,7 @@
 -- What stands at a place of a packed block: the rest of an entry, and the child of an index block.
-use Rattle.std.proofs.Common.{ℕ, suc, ◌≡◌, ◌+◌, ◌-◌, ◌≤◌, true, false, List, [], ◌∷◌, ◌++◌, length, take, drop, ◌⊎◌}
+use Rattle.std.proofs.Common.{ℕ, suc, ◌≡◌, ◌+◌, ◌-◌, ◌≤◌, true, false, List, [], ◌∷◌, ◌++◌, length, take, drop}
 use Rattle.std.proofs.Common.{inl, inr, refl, sym, ◌∙◌, ap, subst, arith, append_assoc, length-append, length-drop}
-use Rattle.std.specs.Prelude.{All, IsTrue, IsSomeAnd}
+use Rattle.std.specs.Prelude.{All}
 use Rattle.std.specs.Ordering.{nat_cmp, is_lt, is_le}
 use Rattle.std.specs.Cmp.Lexicographic.{slice_cmp}
 use Rattle.std.specs.declared.cmp.Ordering.{Ordering}
@@ -11,7 +11,7 @@ use Rattle.std.proofs.lemmas.Cmp.{nat_list_cmp_total, tied_itself}
 use Rattle.std.proofs.lemmas.List.{append-nil, drop_at, take_rest}
 use Rattle.std.proofs.lemmas.List.Elements.{All-nil, All-cons, All-append, All-head, All-tail}
 use Rattle.gds_block.specs.Fields.{u32_at}
-use Rattle.gds_block.specs.Record.{Record, StandsIn, records_of}
+use Rattle.gds_block.specs.Record.{Record, StandsIn}
 use Rattle.gds_block.specs.Item.{Item}
 use Rattle.gds_block.proofs.PlaceLemmas.{All-records_of}
 use Rattle.m_key.specs.Key.{AtMost, Below}
@@ -23,9 +23,8 @@ use Rattle.gds_pack.proofs.SizeLemmas.{records_size-append}
 use Rattle.gds_pack.proofs.ReadLemmas.{length-body}
 use Rattle.gds_search.specs.PackedBlock.{IsPackedBlock}
 use Rattle.gds_search.specs.Place.{IsBelow, IsPlaceFor, BeginsAt, BeginsAbove}
-use Rattle.gds_search.specs.Child.{IsChildFor, IsChild}
+use Rattle.gds_search.specs.Child.{IsChild}
 use Rattle.gds_search.specs.declared.place.Place.{Place}
-use Rattle.gds_search.specs.declared.reading.Child.{Child}
 use Rattle.gds_search.proofs.OrderLemmas.{shared-itself}
 use Rattle.gds_search.proofs.PackedLemmas.{records_of-packed}
 

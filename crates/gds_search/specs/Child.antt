@@ -1,5 +1,5 @@
 -- The child of an index block that a key leads to.
-use Rattle.std.specs.Prelude.{ℕ, ◌≡◌, All, List, [], ◌∷◌, ◌++◌}
+use Rattle.std.specs.Prelude.{ℕ, ◌≡◌, All, List, ◌∷◌, ◌++◌}
 use Rattle.gds_block.specs.Fields.{u32_at}
 use Rattle.gds_block.specs.Item.{Item}
 use Rattle.m_key.specs.Key.{AtMost}

@@ -1,4 +1,5 @@
-ghost use Rattle.std.specs.Prelude.{ℕ, ◌≡◌, ◌+◌, ◌≤◌, ◌++◌, ◌∷◌, suc, true, false, List, Some, None, length, IfSome, IsSomeAnd};
+ghost use Rattle.std.specs.Prelude.{ℕ, suc, ◌≡◌, ◌+◌, ◌≤◌, List, ◌∷◌, ◌++◌, length, true, false, Some, None};
+ghost use Rattle.std.specs.Prelude.{IfSome, IsSomeAnd};
 ghost use Rattle.gds_block.specs.Block.{IsBlock};
 ghost use Rattle.gds_block.specs.Fields.{u32_at};
 ghost use Rattle.gds_block.specs.Item.{Item};
@@ -20,7 +21,8 @@ pub struct Child {
     pub block: u32,
 }
 
-/// The rest of the entry that has the key whose place this is: a value, or a pointer's bytes. None where no entry has it.
+/// The rest of the entry that has the key whose place this is: a value, or a pointer's bytes. `None` where no entry has
+/// the key.
 pub fn rest_at<'a>(block: &'a [u8], place: &Place) -> Option<&'a [u8]>
     ensures found { (height : ℕ) (es before behind : List Item) (own : Item) (key : List ℕ)
         → IsPackedBlock block.now height es → IsPlaceFor es key place.now before (own ∷ behind)

@@ -1,4 +1,4 @@
-use Rattle.std.proofs.Common.{ℕ, List, ◌≡◌, ◌++◌, ◌-◌, Some, length, drop, sym, ◌∙◌, ap, arith, length-append}
+use Rattle.std.proofs.Common.{ℕ, List, ◌≡◌, ◌++◌, Some, length, ◌∙◌, ap, arith, length-append}
 use Rattle.std.proofs.lemmas.List.{drop_at}
 use Rattle.std.specs.Int.{w32, from_le_bytes}
 use Rattle.gds_block.specs.Fields.{u32_at}

@@ -1,4 +1,4 @@
-use Rattle.std.proofs.Common.{length, refl, sym, ap, arith, length-append}
+use Rattle.std.proofs.Common.{refl, sym, arith}
 use Rattle.gds_search.proofs.ReadingLemmas.{entry_stands, key_part, part_within, rest_is}
 use Rattle.gds_search.proofs.reading.rest_at.Goals as goal
 
