@@ -4,6 +4,8 @@
 #[cfg(test)]
 mod blocks;
 #[cfg(test)]
+mod edits;
+#[cfg(test)]
 mod headers;
 #[cfg(test)]
 mod maps;

@@ -5,7 +5,7 @@ use std::process::Abort;
 use std::test::Fail;
 
 /// The records of `^A(1)`, `^A(1,1)`, `^A(1,2)` and `^B`, at 16, 27, 36 and 44. They end at 52.
-fn nested() -> Result<[u8; 64], FixtureError> {
+pub(crate) fn nested() -> Result<[u8; 64], FixtureError> {
     block(
         0,
         1,
@@ -19,7 +19,7 @@ fn nested() -> Result<[u8; 64], FixtureError> {
 }
 
 /// The records of `^A` to block 3, `^A(1)` to block 4 and the star to block 65, at 16, 27 and 39. They end at 47.
-fn pointers() -> Result<[u8; 64], FixtureError> {
+pub(crate) fn pointers() -> Result<[u8; 64], FixtureError> {
     block(
         1,
         1,

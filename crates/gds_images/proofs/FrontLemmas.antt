@@ -231,100 +231,100 @@ module _ (file : List ℕ) (epoch : ℕ) (images : List Place) (at left : ℕ) w
 -- ---- The bad field of an image.
 
 module _ (file front : List ℕ) (epoch at left : ℕ) (within : at ≤ length file) (is : front ≡ take 12 (drop at file))
-    where
-  image_front : length front ≡ min 12 (length file - at)
-  image_front = front_length 12 at file front is
+  where
+    image_front : length front ≡ min 12 (length file - at)
+    image_front = front_length 12 at file front is
 
-  len_is : u32_at front 8 ≡ image_length file at
-  len_is = front_u32 12 at file front is 8 (omega arith)
+    len_is : u32_at front 8 ≡ image_length file at
+    len_is = front_u32 12 at file front is 8 (omega arith)
 
-  at_is : u64_at front 0 ≡ u64_at file at
-  at_is = front_u64 12 at file front is 0 (omega arith) ∙ ap (u64_at file) (add-zero at)
+    at_is : u64_at front 0 ≡ u64_at file at
+    at_is = front_u64 12 at file front is 0 (omega arith) ∙ ap (u64_at file) (add-zero at)
 
-  pub bad_place : length front < 8 → bad_field file epoch at left ≡ Some at
-  unfolding bad_field
-  bad_place short =
-      let same = image_front in
-      let t : leb (at + 8) (length file) ≡ false = lt-leb _ _ (omega arith) in
-      rw t
-
-  pub bad_room : left < 12 → bad_field file epoch at left ≡ Some at
-  unfolding bad_field
-  bad_room few =
-      let t : ltb left 12 ≡ true = lt-ltb _ _ few in
-      let e = or_right (not (leb (at + 8) (length file))) (ltb left 12) t in
-      rw e
-
-  module _ (long : 8 ≤ length front) (room : 12 ≤ left) where
-    first_there : (not (leb (at + 8) (length file)) || ltb left 12) ≡ false
-    first_there =
-        let same = image_front in
-        let t : leb (at + 8) (length file) ≡ true = le-leb _ _ (omega arith) in
-        let u : ltb left 12 ≡ false = le-ltb _ _ room in
-        rw (t, u)
-
-    pub bad_length : length front < 12 → bad_field file epoch at left ≡ Some (at + 8)
+    pub bad_place : length front < 8 → bad_field file epoch at left ≡ Some at
     unfolding bad_field
-    bad_length short =
+    bad_place short =
         let same = image_front in
-        let first = first_there in
-        let t : leb (at + 8 + 4) (length file) ≡ false = lt-leb _ _ (omega arith) in
-        rw (first, t)
+        let t : leb (at + 8) (length file) ≡ false = lt-leb _ _ (omega arith) in
+        rw t
 
-    module _ (whole : 12 ≤ length front) where
-      second_there : leb (at + 8 + 4) (length file) ≡ true
-      second_there = le-leb _ _ (omega (arith, image_front))
+    pub bad_room : left < 12 → bad_field file epoch at left ≡ Some at
+    unfolding bad_field
+    bad_room few =
+        let t : ltb left 12 ≡ true = lt-ltb _ _ few in
+        let e = or_right (not (leb (at + 8) (length file))) (ltb left 12) t in
+        rw e
 
-      pub bad_end : left < 12 + u32_at front 8 → bad_field file epoch at left ≡ Some at
+    module _ (long : 8 ≤ length front) (room : 12 ≤ left) where
+      first_there : (not (leb (at + 8) (length file)) || ltb left 12) ≡ false
+      first_there =
+          let same = image_front in
+          let t : leb (at + 8) (length file) ≡ true = le-leb _ _ (omega arith) in
+          let u : ltb left 12 ≡ false = le-ltb _ _ room in
+          rw (t, u)
+
+      pub bad_length : length front < 12 → bad_field file epoch at left ≡ Some (at + 8)
       unfolding bad_field
-      bad_end past =
-          let same = len_is in
+      bad_length short =
+          let same = image_front in
           let first = first_there in
-          let second = second_there in
-          let t : ltb left (12 + image_length file at) ≡ true = lt-ltb _ _ (omega arith) in
-          rw (first, second, t)
+          let t : leb (at + 8 + 4) (length file) ≡ false = lt-leb _ _ (omega arith) in
+          rw (first, t)
 
-      module _ (fills : 12 + u32_at front 8 ≤ left) where
-        third_there : ltb left (12 + image_length file at) ≡ false
-        third_there = le-ltb _ _ (omega (arith, len_is))
+      module _ (whole : 12 ≤ length front) where
+        second_there : leb (at + 8 + 4) (length file) ≡ true
+        second_there = le-leb _ _ (omega (arith, image_front))
 
-        pub bad_rule : (u32_at front 8 ≡ 0) ⊎ (epoch < u64_at front 0 + u32_at front 8)
-            → bad_field file epoch at left ≡ Some (at + 8)
+        pub bad_end : left < 12 + u32_at front 8 → bad_field file epoch at left ≡ Some at
         unfolding bad_field
-        bad_rule broken =
-            let same_len = len_is in
-            let same_at = at_is in
+        bad_end past =
+            let same = len_is in
             let first = first_there in
             let second = second_there in
-            let third = third_there in
-            let len = image_length file at in
-            let rule : (eqb len 0 || ltb epoch (u64_at file at + len)) ≡ true = ⊎_elim
-            (λ (none : u32_at front 8 ≡ 0). or_left (eqb len 0) _ (eq-eqb len 0 (omega arith)))
-            (λ (high : epoch < u64_at front 0 + u32_at front 8).
-            or_right (eqb len 0) (ltb epoch (u64_at file at + len)) (lt-ltb _ _ (omega arith))) broken in
-            rw (first, second, third, rule)
+            let t : ltb left (12 + image_length file at) ≡ true = lt-ltb _ _ (omega arith) in
+            rw (first, second, t)
 
-        module _ (some : 0 < u32_at front 8) (low : u64_at front 0 + u32_at front 8 ≤ epoch) where
-          pub bad_bytes : length file < at + 12 + u32_at front 8 → bad_field file epoch at left ≡ Some (at + 12)
+        module _ (fills : 12 + u32_at front 8 ≤ left) where
+          third_there : ltb left (12 + image_length file at) ≡ false
+          third_there = le-ltb _ _ (omega (arith, len_is))
+
+          pub bad_rule : (u32_at front 8 ≡ 0) ⊎ (epoch < u64_at front 0 + u32_at front 8)
+              → bad_field file epoch at left ≡ Some (at + 8)
           unfolding bad_field
-          bad_bytes short =
+          bad_rule broken =
               let same_len = len_is in
               let same_at = at_is in
               let first = first_there in
               let second = second_there in
               let third = third_there in
               let len = image_length file at in
-              let a : eqb len 0 ≡ false = ne_eqb len 0 (λ e. omega arith) in
-              let b : ltb epoch (u64_at file at + len) ≡ false = le-ltb _ _ (omega arith) in
-              let t : leb (at + 12 + len) (length file) ≡ false = lt-leb _ _ (omega arith) in
-              rw (first, second, third, a, b, t)
+              let rule : (eqb len 0 || ltb epoch (u64_at file at + len)) ≡ true = ⊎_elim
+              (λ (none : u32_at front 8 ≡ 0). or_left (eqb len 0) _ (eq-eqb len 0 (omega arith)))
+              (λ (high : epoch < u64_at front 0 + u32_at front 8).
+              or_right (eqb len 0) (ltb epoch (u64_at file at + len)) (lt-ltb _ _ (omega arith))) broken in
+              rw (first, second, third, rule)
 
-          pub good_image : at + 12 + u32_at front 8 ≤ length file
-              → (bad_field file epoch at left ≡ None)
-              × (record { at = u64_at front 0; len = u32_at front 8; from = at + 12 } ≡ image_at file at)
-          good_image there =
-              let same_len = len_is in
-              let same_at = at_is in
-              let good : IsGood file epoch at left (image_length file at) =
-              record { some = omega arith; fills = omega arith; whole = omega arith; low = omega arith } in
-              (no_bad_field file epoch at left good, λ i. record { at = at_is i; len = len_is i; from = at + 12 })
+          module _ (some : 0 < u32_at front 8) (low : u64_at front 0 + u32_at front 8 ≤ epoch) where
+            pub bad_bytes : length file < at + 12 + u32_at front 8 → bad_field file epoch at left ≡ Some (at + 12)
+            unfolding bad_field
+            bad_bytes short =
+                let same_len = len_is in
+                let same_at = at_is in
+                let first = first_there in
+                let second = second_there in
+                let third = third_there in
+                let len = image_length file at in
+                let a : eqb len 0 ≡ false = ne_eqb len 0 (λ e. omega arith) in
+                let b : ltb epoch (u64_at file at + len) ≡ false = le-ltb _ _ (omega arith) in
+                let t : leb (at + 12 + len) (length file) ≡ false = lt-leb _ _ (omega arith) in
+                rw (first, second, third, a, b, t)
+
+            pub good_image : at + 12 + u32_at front 8 ≤ length file
+                → (bad_field file epoch at left ≡ None)
+                × (record { at = u64_at front 0; len = u32_at front 8; from = at + 12 } ≡ image_at file at)
+            good_image there =
+                let same_len = len_is in
+                let same_at = at_is in
+                let good : IsGood file epoch at left (image_length file at) =
+                record { some = omega arith; fills = omega arith; whole = omega arith; low = omega arith } in
+                (no_bad_field file epoch at left good, λ i. record { at = at_is i; len = len_is i; from = at + 12 })

@@ -35,28 +35,28 @@ length-images_bytes image images =
 
 -- the fields of an image that stands at a place
 module _ (file : List ℕ) (at : ℕ) (image : Image) (rest : List ℕ) (here : drop at file ≡ image_bytes image ++ rest)
-    where
-  pub image_fields : drop at file ≡ u64_bytes image.at ++ (u32_bytes (length image.bytes) ++ (image.bytes ++ rest))
-  image_fields = here ∙ simp append_assoc
+  where
+    pub image_fields : drop at file ≡ u64_bytes image.at ++ (u32_bytes (length image.bytes) ++ (image.bytes ++ rest))
+    image_fields = here ∙ simp append_assoc
 
-  pub image_at_is : image.at < 2 ^ 64 → u64_at file at ≡ image.at
-  image_at_is fits = u64_at-here file (u32_bytes (length image.bytes) ++ (image.bytes ++ rest)) at image.at fits
-      image_fields
+    pub image_at_is : image.at < 2 ^ 64 → u64_at file at ≡ image.at
+    image_at_is fits = u64_at-here file (u32_bytes (length image.bytes) ++ (image.bytes ++ rest)) at image.at fits
+        image_fields
 
-  pub image_length_is : length image.bytes < 2 ^ 32 → u32_at file (at + 8) ≡ length image.bytes
-  image_length_is fits =
-      let next : drop (at + 8) file ≡ u32_bytes (length image.bytes) ++ (image.bytes ++ rest) =
-      sym (drop-drop 8 at file) ∙ ap (drop 8) image_fields
-      ∙ drop_at (u64_bytes image.at) (u32_bytes (length image.bytes) ++ (image.bytes ++ rest)) 8
-      (length-u64_bytes image.at) in
-      u32_at-here file (image.bytes ++ rest) (at + 8) (length image.bytes) fits next
+    pub image_length_is : length image.bytes < 2 ^ 32 → u32_at file (at + 8) ≡ length image.bytes
+    image_length_is fits =
+        let next : drop (at + 8) file ≡ u32_bytes (length image.bytes) ++ (image.bytes ++ rest) =
+        sym (drop-drop 8 at file) ∙ ap (drop 8) image_fields
+        ∙ drop_at (u64_bytes image.at) (u32_bytes (length image.bytes) ++ (image.bytes ++ rest)) 8
+        (length-u64_bytes image.at) in
+        u32_at-here file (image.bytes ++ rest) (at + 8) (length image.bytes) fits next
 
-  pub image_behind : drop (at + 12 + length image.bytes) file ≡ rest
-  image_behind =
-      let n = 12 + length image.bytes in
-      let place : at + 12 + length image.bytes ≡ at + n = omega arith in
-      ap (λ k. drop k file) place ∙ sym (drop-drop n at file) ∙ ap (drop n) here
-      ∙ drop_at (image_bytes image) rest n (length-image_bytes image)
+    pub image_behind : drop (at + 12 + length image.bytes) file ≡ rest
+    image_behind =
+        let n = 12 + length image.bytes in
+        let place : at + 12 + length image.bytes ≡ at + n = omega arith in
+        ap (λ k. drop k file) place ∙ sym (drop-drop n at file) ∙ ap (drop n) here
+        ∙ drop_at (image_bytes image) rest n (length-image_bytes image)
 
 -- Images that stand at a place are read there.
 pub images_read : (images : List Image) (n : ℕ) (file : List ℕ) (epoch at : ℕ) (rest : List ℕ) → epoch < 2 ^ 64

@@ -1,0 +1,13 @@
+pub mod PieceLemmas
+pub mod HeaderLemmas
+pub mod BlockLemmas
+pub mod ReadLemmas
+pub mod BitLemmas
+pub mod CountLemmas
+pub mod MapLemmas
+pub mod MasterLemmas
+pub mod ReservedLemmas
+pub mod DirectoryLemmas
+pub mod BytesLemmas
+pub mod SoundLemmas
+pub mod FreeLemmas

@@ -102,7 +102,7 @@ index_share : (p : List ℕ) (b : List Item) (i j : Item) → IsNext p i → Are
 index_share p [] i j next (nokey, four) = omega (arith, ap (shared p) nokey, shared-nil p)
 index_share p (k ∷ b) i j next more = shared-between p i.key j.key next.above more.0.above
 
-share : (level : ℕ) (a b : List Item) (i : Item) → ArePackable level (a ++ i ∷ b)
+pub share : (level : ℕ) (a b : List Item) (i : Item) → ArePackable level (a ++ i ∷ b)
     → shared (key_behind [] a) (first_key b) ≤ shared i.key (first_key b)
 share zero a b i h =
     let both = leaves_at [] a b i h in

@@ -21,10 +21,10 @@ module _ (x y : ℕ) (a b : List ℕ) where
   rises-tails : x ≡ y → Rises a b → Rises (x ∷ a) (y ∷ b)
   rises-tails e h = ap (λ o. ordering_then o (slice_cmp nat_cmp a b)) (nat_cmp_equal x y e) ∙ h
 
-  shared-heads : (x ≡ y → ⊥) → shared (x ∷ a) (y ∷ b) ≡ 0
+  pub shared-heads : (x ≡ y → ⊥) → shared (x ∷ a) (y ∷ b) ≡ 0
   shared-heads ne = cond-false (nat_eq x y) (1 + shared a b) 0 (ne_eqb x y ne)
 
-  shared-tails : x ≡ y → shared (x ∷ a) (y ∷ b) ≡ 1 + shared a b
+  pub shared-tails : x ≡ y → shared (x ∷ a) (y ∷ b) ≡ 1 + shared a b
   shared-tails e = cond-true (nat_eq x y) (1 + shared a b) 0 (eq-eqb x y e)
 
   heads : Rises (x ∷ a) (y ∷ b) → Heads x y a b

@@ -43,7 +43,7 @@ pub record IsReached (es : List Item) (key : List ℕ) (height m : ℕ) (left : 
 
 -- ---- the start
 
-above-none : (key : List ℕ) → IsKey key → slice_cmp nat_cmp [] key ≡ Less
+pub above-none : (key : List ℕ) → IsKey key → slice_cmp nat_cmp [] key ≡ Less
 above-none [] p = absurd (omega (arith, length-key [] p))
 above-none (b ∷ key) p = refl
 

@@ -43,13 +43,13 @@ child_of v level at previous low (f ∷ es) c (inr i) =
     record { a = f ∷ r.a; e = r.e; b = r.b; whole = ap (λ l. f ∷ l) r.whole; leads = r.leads }
 
 -- what is kept of lists one after another
-kept_left : (old new xs ys : List ℕ) → KeepsBlocks old new (xs ++ ys) → KeepsBlocks old new xs
+pub kept_left : (old new xs ys : List ℕ) → KeepsBlocks old new (xs ++ ys) → KeepsBlocks old new xs
 kept_left old new xs ys h =
     All-from_recursion (λ n. block_of new n ≡ block_of old n) xs
     (all_left (λ n. block_of new n ≡ block_of old n) xs ys
     (recursion_from_All (λ n. block_of new n ≡ block_of old n) (xs ++ ys) h))
 
-kept_right : (old new xs ys : List ℕ) → KeepsBlocks old new (xs ++ ys) → KeepsBlocks old new ys
+pub kept_right : (old new xs ys : List ℕ) → KeepsBlocks old new (xs ++ ys) → KeepsBlocks old new ys
 kept_right old new xs ys h =
     All-from_recursion (λ n. block_of new n ≡ block_of old n) ys
     (all_right (λ n. block_of new n ≡ block_of old n) xs ys
@@ -78,6 +78,7 @@ module _ (image : List ℕ) (i : IsImage image) where
     before = record { blocks = []; items = [] };
     inner = t;
     behind = record { blocks = []; items = [] };
+    role = refl;
     sound = h;
     whole = around_none t;
     exchanges = λ new j sizes more kept kept' inner k.
@@ -103,6 +104,7 @@ module _ (image : List ℕ) (i : IsImage image) where
         before = joined (joined root p.first) r.before;
         inner = r.inner;
         behind = joined r.behind q.second;
+        role = r.role;
         sound = r.sound;
         whole = is ∙ ap (joined root) (p.is ∙ ap (joined p.first) (q.is ∙ ap (λ s. joined s q.second) r.whole))
             ∙ regroup root p.first r.before r.inner r.behind q.second;

@@ -1,7 +1,9 @@
-//! Reading a file of images: good ones, and each field that can be bad, by the place of its first byte.
+//! Reading files of images, good ones and each field that can be bad, by the place of its first byte; and writing one.
 
-use gds_images::{Chain, ImagesError, Place, open_chain};
+use fixtures::CLOSED;
+use gds_images::{Chain, Group, ImagesError, Place, append_group, open_chain, open_gate};
 use host_mem::SureHost;
+use host_model::{FileNo, Host, HostFailed};
 use std::alloc::{AllocError, Global};
 use std::test::Fail;
 
@@ -102,5 +104,39 @@ fn bad_fields(rt: HostRuntime) -> Result<(), Fail> {
             "{label}"
         );
     }
+    Ok(())
+}
+
+/// Writes a group behind a gate and opens it, where the file has that gate, and answers where the next one is.
+fn stored(host: &mut SureHost, gate: u32, images: &mut Group) -> Result<u64, HostFailed> {
+    let gate = u64::from(gate);
+    if host.len(FileNo::Images)? <= gate {
+        return Err(HostFailed);
+    }
+    let next = append_group(host, gate, images, 100)?;
+    if host.len(FileNo::Images)? <= gate {
+        return Err(HostFailed);
+    }
+    open_gate(host, gate)?;
+    Ok(next)
+}
+
+/// Two groups are written as they stand in the file above, with the next gate closed.
+#[test]
+fn groups_are_written(rt: HostRuntime) -> Result<(), Fail> {
+    let alloc = rt.alloc();
+    let mut host = SureHost::new(alloc, Vec::new(alloc), CLOSED.to_vec(alloc)?);
+    let mut images = Group::new(alloc)?;
+    images.push(10, b"abcd")?;
+    images.push(97, b"xyz")?;
+    images.push(12, b"let go")?;
+    images.truncate(2);
+    assert_eq!(rt; stored(&mut host, 8, &mut images), Ok(56), "behind gate 0");
+    images.clear();
+    images.push(12, b"q")?;
+    assert_eq!(rt; stored(&mut host, 56, &mut images), Ok(78), "behind gate 1");
+    let written = host.parts().1;
+    assert_eq!(rt; written.get(..78), IMAGES.get(..78), "the groups");
+    assert_eq!(rt; written.get(78..), Some(&[0][..]), "the next gate");
     Ok(())
 }

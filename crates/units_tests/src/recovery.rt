@@ -104,7 +104,8 @@ fn leaves_what_it_can_not_recover(rt: HostRuntime) -> Result<(), Fail> {
     Ok(())
 }
 
-/// Two syncs, two lengths, four reads of the chain, two images, a cut, its sync, two calls for the gate, and the header.
+/// How many calls a recovery makes here: two syncs, two lengths, four reads of the chain, a read and a write for each
+/// image, a cut and its sync, two for the gate, and a read of the header.
 const CALLS: u64 = 17;
 
 #[test]

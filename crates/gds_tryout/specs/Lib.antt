@@ -1,0 +1,4 @@
+pub mod File
+pub mod Global
+pub mod Entries
+pub mod Outcome

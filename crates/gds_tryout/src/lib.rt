@@ -1,0 +1,11 @@
+//! The laws about changed trees, tried out: changes of a database file in memory that keep it sound.
+//!
+//! A file is a slice of bytes here, changed in place, with no commit and no crash.
+#![tactic(auto)]
+
+mod blocks;
+mod entries;
+mod values;
+
+pub use blocks::{block, block_tn, put_block, read_entries};
+pub use values::{Outcome, replace_value};
