@@ -1,6 +1,6 @@
 use fixtures::{FixtureError, block, star};
 use gds_block::BlockView;
-use gds_search::{Place, Unreadable, search};
+use gds_search::{Child, Place, Unreadable, child_at, rest_at, search};
 use std::process::Abort;
 use std::test::Fail;
 
@@ -90,6 +90,44 @@ fn places_of_keys_in_an_index_block(rt: HostRuntime) -> Result<(), Fail> {
     let bytes = pointers()?;
     for row in rows {
         check_place(&rt, &bytes, row)?;
+    }
+    Ok(())
+}
+
+#[test]
+fn rests_of_keys_in_a_leaf(rt: HostRuntime) -> Result<(), Fail> {
+    let rows: [(&str, &[u8], Option<&[u8]>); 5] = [
+        ("^A", b"A\0\0", None),
+        ("^A(1)", b"A\0\xBF\x11\0\0", Some(b"a")),
+        ("^A(1,2)", b"A\0\xBF\x11\0\xBF\x21\0\0", Some(b"c")),
+        ("^B", b"B\0\0", Some(b"d")),
+        ("^B(1)", b"B\0\xBF\x11\0\0", None),
+    ];
+    let bytes = nested()?;
+    let block = BlockView::new(&bytes).ok_or("a block")?;
+    for (label, key, wanted) in rows {
+        let place = search(&block, key).map_err(|_| "a place")?;
+        assert_eq!(rt; rest_at(&bytes, &place), wanted, "{label}");
+    }
+    Ok(())
+}
+
+#[test]
+fn children_of_an_index_block(rt: HostRuntime) -> Result<(), Fail> {
+    let rows: [(&str, &[u8], usize, u32); 6] = [
+        ("below all", b"%\0\0", 16, 3),
+        ("^A", b"A\0\0", 27, 4),
+        ("^A(0)", b"A\0\x80\0\0", 27, 4),
+        ("^A(1)", b"A\0\xBF\x11\0\0", 39, 65),
+        ("^A(2)", b"A\0\xBF\x21\0\0", 39, 65),
+        ("^B", b"B\0\0", 39, 65),
+    ];
+    let bytes = pointers()?;
+    let view = BlockView::new(&bytes).ok_or("a block")?;
+    for (label, key, offset, block) in rows {
+        let place = search(&view, key).map_err(|_| "a place")?;
+        let wanted = Child { offset, block };
+        assert_eq!(rt; child_at(&bytes, &place), Some(wanted), "{label}");
     }
     Ok(())
 }

@@ -2,3 +2,4 @@ pub mod PackedLemmas
 pub mod OrderLemmas
 pub mod BodyLemmas
 pub mod ReachedLemmas
+pub mod ReadingLemmas

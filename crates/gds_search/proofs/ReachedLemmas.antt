@@ -11,7 +11,6 @@ use Rattle.std.specs.Cmp.Lexicographic.{slice_cmp}
 use Rattle.std.specs.declared.cmp.Ordering.TheVariants.{Less}
 use Rattle.gds_block.specs.Record.{Record, StandsIn, records_of}
 use Rattle.gds_block.specs.Item.{Item}
-use Rattle.m_key.specs.Key.{Below}
 use Rattle.m_key.specs.KeyEnd.{IsKey, shared}
 use Rattle.m_key.proofs.KeyEndLemmas.{shared-nil, take-shared, shared-le, length-key}
 use Rattle.gds_pack.specs.Packed.{record_size, packed_size, packed_record, packed_records, key_behind, first_key}

@@ -1,2 +1,3 @@
 pub mod PackedBlock
 pub mod Place
+pub mod Child

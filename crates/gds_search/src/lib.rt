@@ -3,8 +3,10 @@
 
 mod laws;
 mod place;
+mod reading;
 mod scan;
 
 pub use laws::packed_blocks;
 pub use place::Place;
+pub use reading::{Child, child_at, rest_at};
 pub use scan::{Unreadable, search};

@@ -69,7 +69,8 @@ returns-then-count-shared-2-clause-found c height es q p =
 
 pub returns-then-is_star-clause-within : goal.returns-then-is_star-clause-within
 returns-then-is_star-clause-within c =
-    IsWithin-at c.args.block.now c.args.key.now c.loop-view.view-iterator _ c.next.new.self c.above-then-is_star.result _ _ _
+    IsWithin-at c.args.block.now c.args.key.now c.loop-view.view-iterator _ c.next.new.self
+    c.above-then-is_star.result _ _ _
     c.loop-view.invariant.placed c.in-Some.ensures.steps c.above-then-is_star.ensures c.loop-view.invariant.within
     (omega arith)
 
@@ -108,7 +109,8 @@ returns-then-same-view-clause-found c height es q p =
 
 pub returns-then-view-same-clause-within : goal.returns-then-view-same-clause-within
 returns-then-view-same-clause-within c =
-    IsWithin-at c.args.block.now c.args.key.now c.loop-view.view-iterator _ c.next.new.self c.above-then-view-same.result _ _ _
+    IsWithin-at c.args.block.now c.args.key.now c.loop-view.view-iterator _ c.next.new.self
+    c.above-then-view-same.result _ _ _
     c.loop-view.invariant.placed c.in-Some.ensures.steps c.above-then-view-same.ensures c.loop-view.invariant.within
     (within-key c.args.key.now c.loop-view.shared _ c.loop-view.invariant.within
     c.shared_len-same.ensures.within_second)
