@@ -1,6 +1,6 @@
 -- A free block is taken.
-use Rattle.std.proofs.Common.{◌≡◌, ◌≢◌, ℕ, zero, suc, ◌+◌, ◌-◌, ◌*◌, ◌/◌, ◌%◌, ◌<◌, ◌≤◌, ◌==◌, Bool, true, false, not, ◌&&◌, ◌||◌}
-use Rattle.std.proofs.Common.{if◌then◌else◌, List, [], ◌∷◌, ◌++◌, ◌⊎◌, inl, inr, length, take, filter, flat_map, refl, sym}
+use Rattle.std.proofs.Common.{◌≡◌, ◌≢◌, ℕ, zero, suc, ◌+◌, ◌*◌, ◌/◌, ◌%◌, ◌<◌, ◌≤◌, ◌==◌, Bool, true, false, not, ◌&&◌, ◌||◌}
+use Rattle.std.proofs.Common.{List, [], ◌∷◌, inl, inr, length, take, filter, flat_map, refl, sym}
 use Rattle.std.proofs.Common.{ap, subst, ◌∙◌, arith, length-append, length-take}
 use Rattle.std.specs.Prelude.{nat_eq, nat_lt, IsTrue, slice_index}
 use Rattle.std.specs.List.{range_with_len}
@@ -11,23 +11,23 @@ use Rattle.gds_block.specs.Fields.{u16_at, u32_at, u64_at}
 use Rattle.gds_block.proofs.FieldLemmas.{u16_at-front, u32_at-front, u64_at-front}
 use Rattle.gds_bitmap.specs.State.{code_of, state_from, is_free}
 use Rattle.gds_bitmap.specs.Bitmap.{pair_of, is_free_at}
-use Rattle.gds_header.specs.Fields.{fields_of, block_of}
-use Rattle.gds_header.specs.Kinds.{header_faults, groups_of, has_free}
-use Rattle.gds_law.specs.Maps.{map_of, is_present, places, free_places, has_free_place, free_blocks}
-use Rattle.gds_file.specs.Maps.{has_block, is_busy, IsLawfulMap, AreLawfulMaps}
-use Rattle.gds_file.specs.Reshape.{KeepsLimits, Reshapes}
+use Rattle.gds_header.specs.Fields.{fields_of}
+use Rattle.gds_header.specs.Kinds.{header_faults, groups_of}
+use Rattle.gds_law.specs.Maps.{map_of, is_present, places, free_places, free_blocks}
+use Rattle.gds_file.specs.Maps.{has_block, is_busy, IsLawfulMap}
+use Rattle.gds_file.specs.Reshape.{Reshapes}
 use Rattle.gds_file.specs.FileLaws.{IsLawful}
 use Rattle.gds_file.specs.Take.{Takes}
 use Rattle.gds_file.specs.TakeLaws.{IsFree, TakeStaysLawful, TakeReshapes}
-use Rattle.gds_file.proofs.RightMapLemmas.{free_pair, busy_by_pair, not_busy_past}
+use Rattle.gds_file.proofs.RightMapLemmas.{free_pair, busy_by_pair}
 
 -- ---- counts over a run of numbers
 
-abbrev one_of : Bool → ℕ
+abbrev pub one_of : Bool → ℕ
 one_of true = 1
 one_of false = 0
 
-filtered : (p : ℕ → Bool) (x : ℕ) (xs : List ℕ) → length (filter p (x ∷ xs)) ≡ one_of (p x) + length (filter p xs)
+pub filtered : (p : ℕ → Bool) (x : ℕ) (xs : List ℕ) → length (filter p (x ∷ xs)) ≡ one_of (p x) + length (filter p xs)
 filtered p x xs = by (p x) refl
   where
     by : (t : Bool) → p x ≡ t → length (filter p (x ∷ xs)) ≡ one_of (p x) + length (filter p xs)
@@ -41,7 +41,7 @@ filtered p x xs = by (p x) refl
         omega (arith, ap length is, none)
 
 -- the numbers from one on, so many, but for one of them
-abbrev Beside : ℕ → ℕ → ℕ → (ℕ → Type 0) → Type 0
+abbrev pub Beside : ℕ → ℕ → ℕ → (ℕ → Type 0) → Type 0
 Beside from n x P = (y : ℕ) → from ≤ y → y < from + n → y ≢ x → P y
 
 module _ (p q : ℕ → Bool) where
@@ -49,7 +49,7 @@ module _ (p q : ℕ → Bool) where
       ≡ one_of (r from) + length (filter r (range_with_len (from + 1) n))
   first r from n = filtered r from (range_with_len (from + 1) n)
 
-  filter_same : (from n : ℕ) → ((y : ℕ) → from ≤ y → y < from + n → q y ≡ p y)
+  pub filter_same : (from n : ℕ) → ((y : ℕ) → from ≤ y → y < from + n → q y ≡ p y)
       → length (filter q (range_with_len from n)) ≡ length (filter p (range_with_len from n))
   filter_same from zero h = refl
   filter_same from (suc n) h =
@@ -57,23 +57,23 @@ module _ (p q : ℕ → Bool) where
       let rest = filter_same (from + 1) n (λ y low high. h y (omega (arith, low)) (omega (arith, high))) in
       omega (arith, first p from n, first q from n, here, rest)
 
-  filter_less : (x from n : ℕ) → from ≤ x → x < from + n → p x ≡ true → q x ≡ false
+  pub filter_less : (x from n : ℕ) → from ≤ x → x < from + n → p x ≡ true → q x ≡ false
       → Beside from n x (λ y. q y ≡ p y)
       → length (filter q (range_with_len from n)) + 1 ≡ length (filter p (range_with_len from n))
   filter_less x from zero low high here gone beside = absurd (omega (arith, low, high))
   filter_less x from (suc n) low high here gone beside = elim (cases_eq x from) [
     | inl e ↦
-          let rest = filter_same (from + 1) n
-          (λ y l r. beside y (omega (arith, l)) (omega (arith, r)) (λ s. omega (arith, l, s, e))) in
-          let one : one_of (p from) ≡ 1 = ap one_of (ap p (sym e) ∙ here) in
-          let none : one_of (q from) ≡ 0 = ap one_of (ap q (sym e) ∙ gone) in
-          omega (arith, first p from n, first q from n, rest, one, none)
+        let rest = filter_same (from + 1) n
+        (λ y l r. beside y (omega (arith, l)) (omega (arith, r)) (λ s. omega (arith, l, s, e))) in
+        let one : one_of (p from) ≡ 1 = ap one_of (ap p (sym e) ∙ here) in
+        let none : one_of (q from) ≡ 0 = ap one_of (ap q (sym e) ∙ gone) in
+        omega (arith, first p from n, first q from n, rest, one, none)
     | inr other ↦
-          let rest = filter_less x (from + 1) n (omega (arith, low, other)) (omega (arith, high)) here gone
-          (λ y l r. beside y (omega (arith, l)) (omega (arith, r))) in
-          let same : one_of (q from) ≡ one_of (p from) =
-          ap one_of (beside from (omega arith) (omega arith) (λ s. other (sym s))) in
-          omega (arith, first p from n, first q from n, rest, same)
+        let rest = filter_less x (from + 1) n (omega (arith, low, other)) (omega (arith, high)) here gone
+        (λ y l r. beside y (omega (arith, l)) (omega (arith, r))) in
+        let same : one_of (q from) ≡ one_of (p from) =
+        ap one_of (beside from (omega arith) (omega arith) (λ s. other (sym s))) in
+        omega (arith, first p from n, first q from n, rest, same)
   ]
 
 module _ (f g : ℕ → List ℕ) where
@@ -94,14 +94,14 @@ module _ (f g : ℕ → List ℕ) where
   flat_less x from zero low high less beside = absurd (omega (arith, low, high))
   flat_less x from (suc n) low high less beside = elim (cases_eq x from) [
     | inl e ↦
-          let rest = flat_same (from + 1) n
-          (λ y l r. beside y (omega (arith, l)) (omega (arith, r)) (λ s. omega (arith, l, s, e))) in
-          omega (arith, front f from n, front g from n, rest, less, ap (λ y. length (f y)) e, ap (λ y. length (g y)) e)
+        let rest = flat_same (from + 1) n
+        (λ y l r. beside y (omega (arith, l)) (omega (arith, r)) (λ s. omega (arith, l, s, e))) in
+        omega (arith, front f from n, front g from n, rest, less, ap (λ y. length (f y)) e, ap (λ y. length (g y)) e)
     | inr other ↦
-          let rest = flat_less x (from + 1) n (omega (arith, low, other)) (omega (arith, high)) less
-          (λ y l r. beside y (omega (arith, l)) (omega (arith, r))) in
-          let same = beside from (omega arith) (omega arith) (λ s. other (sym s)) in
-          omega (arith, front f from n, front g from n, rest, same)
+        let rest = flat_less x (from + 1) n (omega (arith, low, other)) (omega (arith, high)) less
+        (λ y l r. beside y (omega (arith, l)) (omega (arith, r))) in
+        let same = beside from (omega arith) (omega arith) (λ s. other (sym s)) in
+        omega (arith, front f from n, front g from n, rest, same)
   ]
 
 -- ---- the maps

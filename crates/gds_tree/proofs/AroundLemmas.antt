@@ -1,29 +1,27 @@
 -- A path leads to a tree inside another, and another may stand in its place.
-use Rattle.std.proofs.Common.{◌≡◌, ℕ, zero, suc, ◌+◌, ◌<◌, ◌≤◌, List, [], ◌∷◌, ◌++◌, length, Option, None, Some, inl, inr}
+use Rattle.std.proofs.Common.{◌≡◌, ℕ, suc, ◌+◌, ◌<◌, List, [], ◌∷◌, ◌++◌, length, Option, Some, inl, inr}
 use Rattle.std.proofs.Common.{refl, sym, ap, subst, ◌∙◌, arith}
-use Rattle.std.specs.Prelude.{⊤}
-use Rattle.std.specs.List.{AllByRecursion}
 use Rattle.std.proofs.lemmas.List.Elements.{All-from_recursion, recursion_from_All}
 use Rattle.gds_block.specs.Fields.{u32_at}
 use Rattle.gds_block.specs.Item.{Item}
 use Rattle.gds_header.specs.Fields.{fields_of, block_of}
 use Rattle.gds_law.specs.Visit.{Visit, Child}
-use Rattle.gds_law.specs.Path.{Steps, children_at, visit_from}
+use Rattle.gds_law.specs.Path.{Steps, visit_from}
 use Rattle.gds_law.proofs.MembershipLemmas.{IsIn}
 use Rattle.gds_pack.specs.Packed.{record_size}
 use Rattle.gds_sound.specs.Sound.{Tree, joined, sound_tree}
 use Rattle.gds_sound.proofs.TreeLemmas.{root_only, leads_through}
 use Rattle.gds_tree.specs.Lawful.{IsLawfulEntry}
-use Rattle.gds_tree.specs.Below.{visit_below, index_children, low_behind, both, trees_below, HasEntries, index_tree}
-use Rattle.gds_tree.specs.Keeps.{IsImage, KeepsSizes, KeepsBlocks}
-use Rattle.gds_tree.specs.Around.{around, Exchanges, IsAround}
-use Rattle.gds_tree.proofs.BelowLemmas.{all_left, all_right, all_weaker, AreBoth, both_parts, some_both, below_append}
+use Rattle.gds_tree.specs.Below.{visit_below, index_children, low_behind, trees_below, HasEntries, index_tree}
+use Rattle.gds_tree.specs.Keeps.{IsImage, KeepsBlocks}
+use Rattle.gds_tree.specs.Around.{around, IsAround}
+use Rattle.gds_tree.proofs.BelowLemmas.{all_left, all_right, all_weaker, both_parts, some_both, below_append}
 use Rattle.gds_tree.proofs.BelowLemmas.{joined_assoc, joined_none}
 use Rattle.gds_tree.proofs.ImageLemmas.{has_children}
 use Rattle.gds_tree.proofs.KeepLemmas.{pointers, index_reach, entries_kept}
 use Rattle.gds_tree.proofs.PartLemmas.{lawful_index}
 use Rattle.gds_tree.proofs.ReplaceLemmas.{forest_grown}
-use Rattle.gds_tree.proofs.TreeByLemmas.{index_by, IndexBy, by_index}
+use Rattle.gds_tree.proofs.TreeByLemmas.{index_by, by_index}
 
 -- the entry to which a child of an index block belongs
 record IsChildOf (v : Visit) (level : ℕ) (low : Option (List ℕ)) (es : List Item) (c : Child) : Type 0 where

@@ -1,13 +1,13 @@
 -- With a right block nothing is wrong, and its children and items are by its entries. What is packed is right.
-use Rattle.std.proofs.Common.{◌≡◌, ℕ, zero, suc, ◌+◌, ◌-◌, ◌<◌, ◌≤◌, ◌==◌, Bool, true, false, not, List, [], ◌∷◌, ◌++◌}
-use Rattle.std.proofs.Common.{length, take, drop, if◌then◌else◌, inl, inr, refl, sym, ap, subst, ◌∙◌, arith}
+use Rattle.std.proofs.Common.{◌≡◌, ℕ, zero, suc, ◌+◌, ◌-◌, ◌<◌, ◌≤◌, not, List, [], ◌∷◌, ◌++◌}
+use Rattle.std.proofs.Common.{length, take, inl, refl, sym, ap, subst, ◌∙◌, arith}
 use Rattle.std.proofs.Common.{append_assoc}
 use Rattle.std.specs.Prelude.{◌^◌, replicate}
 use Rattle.std.specs.List.{list_any}
 use Rattle.std.proofs.lemmas.Bool.{cond-false, eq-eqb}
 use Rattle.std.proofs.lemmas.List.{drop_all, length-take}
 use Rattle.std.proofs.lemmas.List.Elements.{recursion_from_All}
-use Rattle.gds_block.specs.Block.{version_of, reserved_of, level_of, used_of, tn_of, head_bytes, HasHead}
+use Rattle.gds_block.specs.Block.{level_of, used_of, head_bytes, HasHead}
 use Rattle.gds_block.specs.Item.{Item}
 use Rattle.gds_block.specs.Record.{records_of, bytes_left}
 use Rattle.gds_block.proofs.HeadLemmas.{HasHead-front, take-head_bytes}
@@ -15,16 +15,16 @@ use Rattle.gds_header.specs.declared.header.Header.{Header}
 use Rattle.gds_header.specs.Fields.{fields_of, block_of}
 use Rattle.gds_header.specs.Kinds.{IsWithinLimits}
 use Rattle.gds_law.specs.Kinds.{ends}
-use Rattle.gds_law.specs.Visit.{TreeRole, directory, global, Visit, Child}
-use Rattle.gds_law.specs.BlockReading.{BlockReading, reading_of, has_values, points}
+use Rattle.gds_law.specs.Visit.{TreeRole, directory, global, Visit}
+use Rattle.gds_law.specs.BlockReading.{reading_of, has_values}
 use Rattle.gds_law.specs.Block.{kinds_of_head, kinds_from, kinds_of_block, children_from, children_of}
 use Rattle.gds_pack.specs.Packed.{records_size, records_bytes, packed_size, packed_records, block_bytes}
 use Rattle.gds_pack.specs.Packable.{ArePackable}
 use Rattle.gds_pack.proofs.ReadLemmas.{level_of-block_bytes, length-block_bytes, entries_of-block_bytes}
 use Rattle.gds_sound.specs.Stands.{items_from, items_of}
 use Rattle.gds_sound.proofs.BlockLemmas.{value_children}
-use Rattle.gds_tree.specs.Lawful.{IsLawfulEntry, MayBeEmpty, IsLawful}
-use Rattle.gds_tree.specs.RightBlock.{IsStamped, IsDueLevel, HasRightHead, IsRightBlock}
+use Rattle.gds_tree.specs.Lawful.{IsLawfulEntry, IsLawful}
+use Rattle.gds_tree.specs.RightBlock.{IsDueLevel, IsRightBlock}
 use Rattle.gds_tree.specs.Below.{leaf_children, children_by, HasEntries}
 use Rattle.gds_tree.specs.Keeps.{IsImage}
 use Rattle.gds_tree.proofs.UsedLemmas.{none_from}

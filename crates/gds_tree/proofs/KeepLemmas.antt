@@ -1,5 +1,5 @@
 -- A sound tree stays sound in an image that keeps its blocks.
-use Rattle.std.proofs.Common.{◌≡◌, ℕ, zero, suc, ◌+◌, ◌<◌, ◌≤◌, List, [], ◌∷◌, ◌++◌, length, Option, None, Some, refl, sym}
+use Rattle.std.proofs.Common.{◌≡◌, ℕ, zero, suc, ◌<◌, ◌≤◌, List, [], ◌∷◌, ◌++◌, length, Option, Some, sym}
 use Rattle.std.proofs.Common.{ap, subst, ◌∙◌, arith}
 use Rattle.std.specs.Prelude.{⊤}
 use Rattle.std.specs.List.{AllByRecursion}
@@ -11,13 +11,13 @@ use Rattle.gds_header.specs.declared.header.Header.{Header}
 use Rattle.gds_header.specs.Fields.{fields_of, block_of}
 use Rattle.gds_law.specs.Visit.{TreeRole, directory, global, Visit}
 use Rattle.gds_pack.specs.Packed.{packed_size}
-use Rattle.gds_sound.specs.Sound.{Tree, joined, sound_tree}
-use Rattle.gds_tree.specs.Lawful.{IsTreeNumber, IsPointer, IsLawfulRest, IsLawfulKey, IsLawfulEntry, IsLawful}
-use Rattle.gds_tree.specs.RightBlock.{IsStamped, HasRightHead, IsRightBlock}
-use Rattle.gds_tree.specs.Below.{visit_below, both, trees_below, HasEntries, leaf_tree, index_tree}
-use Rattle.gds_tree.specs.Keeps.{IsImage, KeepsSizes, RootsBelow, IsWithinTotal}
-use Rattle.gds_tree.proofs.BelowLemmas.{all_left, all_right, AreBoth, both_parts, some_both, first_block}
-use Rattle.gds_tree.proofs.TreeByLemmas.{leaf_by, index_by, LeafBy, by_leaf, IndexBy, by_index}
+use Rattle.gds_sound.specs.Sound.{Tree, sound_tree}
+use Rattle.gds_tree.specs.Lawful.{IsPointer, IsLawfulRest, IsLawfulEntry}
+use Rattle.gds_tree.specs.RightBlock.{IsRightBlock}
+use Rattle.gds_tree.specs.Below.{visit_below, trees_below, HasEntries}
+use Rattle.gds_tree.specs.Keeps.{IsImage, KeepsSizes}
+use Rattle.gds_tree.proofs.BelowLemmas.{all_left, all_right, both_parts, some_both, first_block}
+use Rattle.gds_tree.proofs.TreeByLemmas.{leaf_by, index_by, by_leaf, by_index}
 
 -- ---- a right block under another header
 

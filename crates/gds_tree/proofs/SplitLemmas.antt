@@ -1,5 +1,5 @@
 -- An index block in two pieces, and a root that is split.
-use Rattle.std.proofs.Common.{◌≡◌, ℕ, zero, suc, ◌<◌, ◌≤◌, List, [], ◌∷◌, ◌++◌, drop, Option, None, Some, refl, sym, ap, subst}
+use Rattle.std.proofs.Common.{◌≡◌, ℕ, suc, ◌≤◌, List, [], ◌∷◌, ◌++◌, drop, Some, refl, sym, ap, subst}
 use Rattle.std.proofs.Common.{◌∙◌, append_assoc}
 use Rattle.std.specs.List.{AllByRecursion}
 use Rattle.gds_block.specs.Item.{Item}
@@ -15,12 +15,12 @@ use Rattle.gds_tree.specs.Keeps.{IsImage, KeepsSizes, KeepsBlocks}
 use Rattle.gds_tree.specs.Split.{PartsAt, InTwoPieces}
 use Rattle.gds_tree.proofs.AroundLemmas.{kept_left, kept_right}
 use Rattle.gds_tree.proofs.FineLemmas.{some_key}
-use Rattle.gds_tree.proofs.BelowLemmas.{all_left, all_right, AreBoth, both_parts, some_both, below_append, low_append, joined_none}
+use Rattle.gds_tree.proofs.BelowLemmas.{all_left, all_right, both_parts, some_both, below_append, low_append, joined_none}
 use Rattle.gds_tree.proofs.PartLemmas.{lawful_index}
 use Rattle.gds_tree.proofs.ItemLemmas.{packable}
 use Rattle.gds_tree.proofs.ReplaceLemmas.{forest_grown}
 use Rattle.gds_tree.proofs.RootLemmas.{same_entries, same_below, high_key, front_below}
-use Rattle.gds_tree.proofs.TreeByLemmas.{index_by, IndexBy, by_index}
+use Rattle.gds_tree.proofs.TreeByLemmas.{index_by, by_index}
 
 -- ---- the two pieces
 
@@ -135,5 +135,5 @@ module _ (old new : List ℕ) (v : Visit) (level : ℕ) (a : List Item) (m f : I
           two.behind,
           two.whole,
           index_by new v (suc level) (p ∷ q ∷ []) (joined x y) j now
-          (trees ∙ ap (λ w. Some (joined x w)) (joined_none y)),
+              (trees ∙ ap (λ w. Some (joined x w)) (joined_none y)),
         )

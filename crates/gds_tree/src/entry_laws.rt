@@ -7,7 +7,7 @@ ghost use Rattle.gds_pack.specs.Packed.{key_behind};
 ghost use Rattle.m_key.specs.Key.{Below};
 ghost use Rattle.m_key.specs.KeyEnd.{IsKey};
 ghost use Rattle.gds_tree.specs.Lawful.{IsAboveLow, IsBelowHigh, IsLawfulKey, IsLawfulRest, IsLawfulEntry, MayBeEmpty};
-ghost use Rattle.gds_tree.specs.Lawful.{IsLawful};
+ghost use Rattle.gds_tree.specs.Lawful.{IsLawful, IsPointer};
 ghost use Rattle.gds_tree.specs.Below.{below_key, from_key, as_star, with_key, trees_below};
 
 /// The lawful entries of a block in two pieces are lawful in two blocks, whose bounds the key that parts them makes: at
@@ -58,6 +58,15 @@ pub fn changed_index()
     ensures ended { (h : Header) (v : Visit) (level : ℕ) (a : List Item) (f : Item) (taken put : List Item)
         → IsLawful h v (suc level) (a ++ f ∷ taken) → AreIndex (key_behind [] a) put
         → All (IsLawfulEntry h v (suc level)) put → IsLawful h v (suc level) (a ++ put) }
+{}
+
+/// Where an entry of an index block becomes two, as where what stands below it is split, a lawful key parts them: above
+/// that of the entry before and below the entry's own, which the second of the two keeps.
+pub fn parted_entry()
+    ensures { (h : Header) (v : Visit) (level : ℕ) (a : List Item) (e : Item) (b : List Item) (key left right : List ℕ)
+        → IsLawful h v (suc level) (a ++ e ∷ b) → IsKey key → IsLawfulKey h v (suc level) key
+        → Below (key_behind [] a) key → (e.key ≢ [] → Below key e.key) → IsPointer h left → IsPointer h right
+        → IsLawful h v (suc level) (a ++ record { key = key; rest = left } ∷ record { key = e.key; rest = right } ∷ b) }
 {}
 
 /// The role and the bounds of a visit decide which entries are lawful there and, with the entries, what stands below.

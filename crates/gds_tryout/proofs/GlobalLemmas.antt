@@ -1,26 +1,41 @@
 -- What is known of a global of a sound file, and that its tree may change.
-use Rattle.std.proofs.Common.{◌≡◌, ◌≢◌, ℕ, ◌+◌, ◌<◌, ◌≤◌, ◌%◌, ◌==◌, true, List, [], ◌∷◌, ◌++◌, Some, refl, sym, ap, subst, ◌∙◌, arith}
+use Rattle.std.proofs.Common.{◌≡◌, ℕ, ◌+◌, ◌≤◌, ◌==◌, List, [], ◌∷◌, ◌++◌, length, Some, refl, subst, ◌∙◌, arith}
 use Rattle.std.proofs.Common.{inl, inr}
-use Rattle.std.specs.Prelude.{◌^◌, nat_eq, nat_lt, IsTrue}
-use Rattle.std.specs.List.{IsDistinct}
-use Rattle.std.proofs.lemmas.Bool.{ltb-false, or_parts}
-use Rattle.gds_block.specs.Item.{Item}
+use Rattle.std.specs.Prelude.{◌^◌, nat_lt, IsTrue}
+use Rattle.std.proofs.lemmas.Bool.{ltb-false, eqb-false, or_parts}
 use Rattle.gds_header.specs.declared.kind.HeaderKind.TheVariants.{ShortFile, BadTransactionNumber}
-use Rattle.gds_header.specs.Fields.{fields_of, image_length, block_of}
+use Rattle.gds_header.specs.Fields.{fields_of, image_length}
+use Rattle.gds_header.specs.Kinds.{header_faults}
 use Rattle.gds_law.specs.Visit.{Visit}
-use Rattle.gds_sound.specs.Sound.{Tree, tree_at, root_of, IsSound}
+use Rattle.gds_sound.specs.Sound.{tree_at, root_of}
 use Rattle.gds_sound.proofs.CountLemmas.{count}
 use Rattle.gds_sound.proofs.HeaderLemmas.{limits_of, none_of_header}
-use Rattle.gds_sound.proofs.PathLemmas.{counts_from_distinct, distinct_from_counts, any_counted, counted_any}
+use Rattle.gds_sound.proofs.PathLemmas.{counts_from_distinct, any_counted, counted_any}
 use Rattle.gds_sound.proofs.SoundLemmas.{AreTrees, blocks_of}
 use Rattle.gds_tree.specs.Keeps.{IsImage}
-use Rattle.gds_file.specs.Maps.{has_block, is_busy}
+use Rattle.gds_file.specs.Maps.{has_block}
 use Rattle.gds_file.specs.FileLaws.{IsLawful}
 use Rattle.gds_file.specs.Rewrite.{AreAllBusy}
 use Rattle.gds_file.proofs.FileLemmas.{trees_split, with_global, beside}
 use Rattle.gds_file.proofs.UseLemmas.{IsProper, proper_block}
 use Rattle.gds_file.proofs.RightMapLemmas.{maps_in_two_parts}
 use Rattle.gds_tryout.specs.Global.{GlobalOf}
+
+-- a file with whose header nothing is wrong
+pub image_of : (file : List ℕ) → header_faults file ≡ [] → IsImage file
+image_of file none = record {
+  limits = limits_of file none;
+  whole = ltb-false (length file) (image_length file)
+      (none_of_header file none ShortFile (inr (inr (inr (inr (inr (inr (inl refl))))))));
+}
+
+pub tn_of_header : (file : List ℕ) → header_faults file ≡ [] → (1 ≤ (fields_of file).tn) × ((fields_of file).tn ≤ 2 ^ 63)
+tn_of_header file faultless =
+    let none = none_of_header file faultless BadTransactionNumber
+    (inr (inr (inr (inr (inr (inr (inr (inr (inr (inl refl)))))))))) in
+    let parts = or_parts ((fields_of file).tn == 0) (nat_lt (2 ^ 63) (fields_of file).tn) none in
+    let some = eqb-false (fields_of file).tn 0 parts.0 in
+    (omega (arith, some), ltb-false (2 ^ 63) (fields_of file).tn parts.1)
 
 module _ (file : List ℕ) (g : GlobalOf file) where
   abbrev pub root : Visit
@@ -30,17 +45,10 @@ module _ (file : List ℕ) (g : GlobalOf file) where
   all = blocks_of g.directory (g.left ++ g.tree ∷ g.right)
 
   pub whole_image : IsImage file
-  whole_image = record {
-    limits = limits_of file g.sound.header;
-    whole = ltb-false _ (image_length file)
-        (none_of_header file g.sound.header ShortFile (inr (inr (inr (inr (inr (inr (inl refl))))))));
-  }
+  whole_image = image_of file g.sound.header
 
   pub tn_small : (fields_of file).tn ≤ 2 ^ 63
-  tn_small =
-      let none = none_of_header file g.sound.header BadTransactionNumber
-      (inr (inr (inr (inr (inr (inr (inr (inr (inr (inl refl)))))))))) in
-      ltb-false (2 ^ 63) (fields_of file).tn (or_parts ((fields_of file).tn == 0) (nat_lt (2 ^ 63) (fields_of file).tn) none).1
+  tn_small = (tn_of_header file g.sound.header).1
 
   pub lawful_file : IsLawful file
   lawful_file = record {

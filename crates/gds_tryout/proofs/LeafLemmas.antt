@@ -1,8 +1,8 @@
 -- A leaf of a global gets other entries.
-use Rattle.std.proofs.Common.{◌≡◌, ◌≢◌, ℕ, zero, suc, ◌+◌, ◌≤◌, ◌<◌, ◌%◌, ◌||◌, Bool, true, false, List, [], ◌∷◌, ◌++◌, length, Some, refl}
-use Rattle.std.proofs.Common.{sym, ap, subst, ◌∙◌, arith, ◌⊎◌, inl, inr, Option}
+use Rattle.std.proofs.Common.{◌≡◌, ◌≢◌, ℕ, ◌+◌, ◌≤◌, ◌<◌, ◌%◌, ◌||◌, Bool, true, false, List, [], ◌∷◌, ◌++◌, length, Some, refl}
+use Rattle.std.proofs.Common.{sym, ap, subst, ◌∙◌, arith, inl, inr}
 use Rattle.std.specs.Prelude.{nat_eq, IsTrue}
-use Rattle.std.proofs.lemmas.Bool.{or_left, or_cases, eq-eqb, eqb-true, ne_eqb, false_from_ne_true, cases_eq}
+use Rattle.std.proofs.lemmas.Bool.{or_left, eq-eqb, eqb-true, ne_eqb}
 use Rattle.std.proofs.lemmas.List.Elements.{All-from_recursion}
 use Rattle.std.specs.List.{AllByRecursion, IsDistinct}
 use Rattle.gds_block.specs.Block.{level_of, used_of, IsBlock}
@@ -13,7 +13,7 @@ use Rattle.gds_header.specs.Kinds.{IsWithinLimits}
 use Rattle.gds_law.specs.Visit.{Visit}
 use Rattle.gds_law.proofs.MembershipLemmas.{IsIn}
 use Rattle.gds_pack.specs.Packed.{packed_size}
-use Rattle.gds_sound.specs.Sound.{Tree, joined, tree_at, sound_tree, root_of, IsSound}
+use Rattle.gds_sound.specs.Sound.{Tree, sound_tree, root_of}
 use Rattle.gds_sound.proofs.CountLemmas.{count, count_append}
 use Rattle.gds_sound.proofs.HeaderLemmas.{block_whole}
 use Rattle.gds_sound.proofs.PathLemmas.{distinct_from_counts, any_counted, counted_any}
@@ -23,14 +23,13 @@ use Rattle.gds_tree.specs.Below.{HasEntries, leaf_tree}
 use Rattle.gds_tree.specs.Keeps.{IsImage, KeepsSizes, KeepsBlocks}
 use Rattle.gds_tree.proofs.AroundLemmas.{around_path}
 use Rattle.gds_tree.proofs.BelowLemmas.{first_block}
-use Rattle.gds_tree.proofs.TreeByLemmas.{leaf_by, LeafBy, by_leaf}
+use Rattle.gds_tree.proofs.TreeByLemmas.{leaf_by, by_leaf}
 use Rattle.gds_file.specs.Maps.{has_block}
 use Rattle.gds_file.specs.Reshape.{Reshapes}
-use Rattle.gds_file.specs.FileLaws.{IsLawful, StandsAt}
 use Rattle.gds_file.specs.Rewrite.{Rewrites}
 use Rattle.gds_file.proofs.FileLemmas.{global_changes}
 use Rattle.gds_file.proofs.RewriteLemmas.{rewrite_keeps_header, rewrite_stays_lawful, rewrite_is_reshape}
-use Rattle.gds_file.proofs.UseLemmas.{has_in, in_has, IsProper}
+use Rattle.gds_file.proofs.UseLemmas.{in_has, IsProper}
 use Rattle.gds_tryout.specs.File.{IsFile}
 use Rattle.gds_tryout.specs.Global.{GlobalOf, LeafOf, SoundWith}
 use Rattle.gds_tryout.proofs.GlobalLemmas.{whole_image, lawful_file, tree_there, proper_there, busy_there, once_there}
@@ -109,8 +108,12 @@ module _ (old : List ℕ) (number : ℕ) (at : LeafOf old number) where
       let here : IsTrue (has_block place.inner.blocks n) =
       ap (λ blocks. has_block blocks n) (sym p.1) ∙ or_left (nat_eq n n) (has_block p.0 n) (eq-eqb n n refl) in
       let there : IsTrue (has_block g.tree.blocks n) =
-      counted_any n g.tree.blocks (omega (arith, any_counted n place.inner.blocks here,
-        ap (λ (t : Tree). count n t.blocks) place.whole, in_parts place.before place.inner place.behind n)) in
+      counted_any n g.tree.blocks (omega (
+        arith,
+        any_counted n place.inner.blocks here,
+        ap (λ (t : Tree). count n t.blocks) place.whole,
+        in_parts place.before place.inner place.behind n,
+      )) in
       let leaf = by_leaf old at.visit place.inner i (proper_there old g n there).within place.sound in
       record {
         place = place;
@@ -124,9 +127,12 @@ module _ (old : List ℕ) (number : ℕ) (at : LeafOf old number) where
       let t = in_tree in
       let n : ℕ = at.visit.block in
       let one : 1 ≤ count n (n ∷ []) = any_counted n (n ∷ []) (or_left (nat_eq n n) false (eq-eqb n n refl)) in
-      subst (IsProper old) at.ends (proper_there old g n (counted_any n g.tree.blocks (omega (arith, one,
+      subst (IsProper old) at.ends (proper_there old g n (counted_any n g.tree.blocks (omega (
+        arith,
+        one,
         ap (λ (w : Tree). count n w.blocks) t.whole,
-        in_parts t.place.before (leaf_tree at.visit t.es) t.place.behind n))))
+        in_parts t.place.before (leaf_tree at.visit t.es) t.place.behind n,
+      ))))
 
   -- ---- other entries in its place
 
@@ -157,8 +163,11 @@ module _ (old : List ℕ) (number : ℕ) (at : LeafOf old number) where
     parts_now : (n : ℕ) → count n g.tree.blocks
         ≡ count n in_tree.place.before.blocks + count n (at.visit.block ∷ []) + count n in_tree.place.behind.blocks
     parts_now n =
-        omega (arith, ap (λ (w : Tree). count n w.blocks) in_tree.whole,
-          in_parts in_tree.place.before (leaf_tree at.visit in_tree.es) in_tree.place.behind n)
+        omega (
+          arith,
+          ap (λ (w : Tree). count n w.blocks) in_tree.whole,
+          in_parts in_tree.place.before (leaf_tree at.visit in_tree.es) in_tree.place.behind n,
+        )
 
     sound_tree_now : sound_tree new (length at.path + 0) root ≡ Some tree_now
     sound_tree_now =

@@ -3,3 +3,6 @@ pub mod GlobalLemmas
 pub mod LeafLemmas
 pub mod EntryLemmas
 pub mod ValueLemmas
+pub mod FreeLemmas
+pub mod HeaderLemmas
+pub mod TakingLemmas

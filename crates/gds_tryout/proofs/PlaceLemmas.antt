@@ -1,6 +1,6 @@
 -- A block that is written in its place in a file.
-use Rattle.std.proofs.Common.{◌≡◌, ℕ, ◌+◌, ◌-◌, ◌*◌, ◌<◌, ◌≤◌, ◌||◌, Bool, true, false, List, [], ◌∷◌, ◌++◌, length, take, drop}
-use Rattle.std.proofs.Common.{◌⊎◌, inl, inr, refl, sym, ap, subst, ◌∙◌, arith, length-append, length-take, length-drop}
+use Rattle.std.proofs.Common.{◌≡◌, ℕ, ◌+◌, ◌*◌, ◌<◌, ◌≤◌, false, List, [], ◌∷◌, ◌++◌, length, take, drop}
+use Rattle.std.proofs.Common.{◌⊎◌, inl, inr, sym, ap, subst, ◌∙◌, arith, length-append, length-take, length-drop}
 use Rattle.std.specs.Prelude.{nat_eq}
 use Rattle.std.proofs.lemmas.Bool.{cases_lt, eqb-false, or_parts}
 use Rattle.std.proofs.lemmas.List.{drop-take, drop_at, take_at, length-take-le}
@@ -9,7 +9,6 @@ use Rattle.std.proofs.lemmas.Slice.{take-put_mid_below, drop-put_mid}
 use Rattle.gds_header.specs.declared.header.Header.{Header}
 use Rattle.gds_header.specs.Fields.{fields_of, place_of, block_of}
 use Rattle.gds_sound.proofs.HeaderLemmas.{same_fields}
-use Rattle.gds_file.specs.Maps.{has_block}
 use Rattle.gds_file.specs.Rewrite.{Rewrites}
 use Rattle.gds_tryout.specs.File.{IsFile}
 
@@ -93,5 +92,11 @@ module _ (file : List ℕ) (h : Header) (is : IsFile file h) where
   block_long n low =
       let all = block_within n low in
       let least : 512 ≤ h.block_size = subst (λ (g : Header). 512 ≤ g.block_size) is.header is.whole.limits.block_from in
-      omega (arith, ap length (block_here n), all, least,
-        length-take h.block_size (drop (8192 + n * h.block_size) file), length-drop (8192 + n * h.block_size) file)
+      omega (
+        arith,
+        ap length (block_here n),
+        all,
+        least,
+        length-take h.block_size (drop (8192 + n * h.block_size) file),
+        length-drop (8192 + n * h.block_size) file,
+      )

@@ -1,36 +1,33 @@
 -- A value that is replaced in a leaf keeps the file sound.
-use Rattle.std.proofs.Common.{◌≡◌, ℕ, ◌+◌, ◌<◌, ◌≤◌, List, [], ◌∷◌, ◌++◌, length, Some, refl, sym, ap, subst, ◌∙◌, arith, inl, inr}
+use Rattle.std.proofs.Common.{◌≡◌, ℕ, ◌<◌, ◌≤◌, List, [], ◌∷◌, ◌++◌, length, Some, sym, ap, subst, ◌∙◌, arith, inr}
 use Rattle.std.proofs.Common.{append_assoc}
-use Rattle.std.specs.Prelude.{◌^◌, All, Option, None, option_map}
-use Rattle.gds_block.specs.Block.{level_of, tn_of, IsBlock}
+use Rattle.std.specs.Prelude.{All, Option, None, option_map}
+use Rattle.gds_block.specs.Block.{level_of, tn_of}
 use Rattle.gds_block.specs.Item.{Item}
 use Rattle.gds_header.specs.declared.header.Header.{Header}
 use Rattle.gds_header.specs.Fields.{fields_of, block_of}
-use Rattle.gds_law.specs.Visit.{Visit}
 use Rattle.gds_pack.specs.Packable.{ArePackable}
-use Rattle.gds_pack.specs.Packed.{packed_size, block_bytes}
+use Rattle.gds_pack.specs.Packed.{block_bytes}
 use Rattle.gds_pack.specs.Unpacked.{entries_of}
 use Rattle.gds_sound.specs.Sound.{Tree}
 use Rattle.gds_sound.specs.Stands.{StandsFor}
 use Rattle.m_key.specs.Globals.{Globals, Place, set_value, after}
 use Rattle.m_key.specs.Key.{key_bytes}
-use Rattle.gds_tree.specs.Around.{around, IsAround}
-use Rattle.gds_tree.specs.Below.{HasEntries, leaf_tree}
+use Rattle.gds_tree.specs.Below.{HasEntries}
 use Rattle.gds_tree.specs.Lawful.{IsLawful, IsLawfulRest}
 use Rattle.gds_tree.specs.RightBlock.{IsDueLevel}
 use Rattle.gds_tree.proofs.FaultlessLemmas.{written_entries}
 use Rattle.gds_tree.proofs.JoinLemmas.{value_changed}
 use Rattle.gds_tree.proofs.RootLemmas.{same_entries}
 use Rattle.gds_file.specs.Change.{SetsItem}
-use Rattle.gds_file.specs.Rewrite.{Rewrites}
 use Rattle.gds_file.proofs.ChangeLemmas.{set_item_is_set, set_in_one_tree}
 use Rattle.gds_file.proofs.RewriteLemmas.{rewrite_keeps_header}
 use Rattle.gds_tryout.specs.Entries.{SetsValue}
-use Rattle.gds_tryout.specs.Global.{GlobalOf, LeafOf, SetsIn}
+use Rattle.gds_tryout.specs.Global.{LeafOf, SetsIn}
 use Rattle.gds_tryout.specs.Outcome.{Sets, Became}
 use Rattle.gds_tryout.specs.declared.values.Outcome.{Outcome}
 use Rattle.gds_tryout.specs.declared.values.Outcome.TheVariants.{Done, TooLong, NoKey, NoRoom}
-use Rattle.gds_tryout.proofs.LeafLemmas.{InTree, in_tree, leaf_proper, rewritten_image, tree_now, leaf_sound}
+use Rattle.gds_tryout.proofs.LeafLemmas.{InTree, in_tree, rewritten_image, tree_now, leaf_sound}
 use Rattle.gds_tryout.proofs.GlobalLemmas.{whole_image, tn_small}
 
 -- an item in the midst of others

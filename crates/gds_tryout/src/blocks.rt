@@ -35,7 +35,12 @@ pub fn block_tn(file: &[u8], header: &Header, number: u32) -> u64
 }
 
 /// The entries of block `number`, which can be read where its used count lies within it.
-pub fn read_entries(alloc: Global, file: &[u8], header: &Header, number: u32) -> Result<Option<Vec<Entry>>, AllocError>
+pub fn read_entries(
+    alloc: Global,
+    file: &[u8],
+    header: &Header,
+    number: u32,
+) -> Result<Option<Vec<Entry>>, AllocError>
     requires file { IsFile file.now header.now }
     requires there { number < header.now.total }
     ensures { IfOk result (λ found. IsBlock (block_of file.now number)
@@ -48,7 +53,14 @@ pub fn read_entries(alloc: Global, file: &[u8], header: &Header, number: u32) ->
 }
 
 /// Writes a block with these entries in the place of block `number`. All else stays.
-pub fn put_block(file: &mut [u8], header: &Header, number: u32, entries: &[Entry], level: u8, tn: u64)
+pub fn put_block(
+    file: &mut [u8],
+    header: &Header,
+    number: u32,
+    entries: &[Entry],
+    level: u8,
+    tn: u64,
+)
     requires file { IsFile file.old header.now }
     requires there { number < header.now.total }
     requires fits { packed_size (items entries.now) ≤ header.now.block_size }

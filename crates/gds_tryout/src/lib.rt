@@ -5,7 +5,9 @@
 
 mod blocks;
 mod entries;
+mod taking;
 mod values;
 
 pub use blocks::{block, block_tn, put_block, read_entries};
+pub use taking::take_block;
 pub use values::{Outcome, replace_value};

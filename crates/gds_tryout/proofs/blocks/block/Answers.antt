@@ -1,5 +1,4 @@
 use Rattle.std.proofs.Common.{ℕ, ◌≡◌, ◌+◌, ◌-◌, ◌*◌, ◌∙◌, drop, take, arith, ap, sym}
-use Rattle.gds_tryout.proofs.ValueLemmas.{value_lawful}
 use Rattle.gds_tryout.proofs.PlaceLemmas.{block_within, block_here}
 use Rattle.gds_tryout.proofs.blocks.block.Goals as goal
 

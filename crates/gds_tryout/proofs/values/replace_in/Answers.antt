@@ -1,11 +1,8 @@
-use Rattle.std.proofs.Common.{◌≡◌, ◌∙◌, ℕ, ◌<◌, ◌≤◌, List, Some, refl, sym, ap, subst, arith, length}
-use Rattle.gds_block.specs.Item.{Item}
+use Rattle.std.proofs.Common.{◌∙◌, ◌≤◌, refl, ap, subst, arith}
 use Rattle.gds_header.specs.declared.header.Header.{Header}
 use Rattle.gds_pack.specs.Entry.{items}
-use Rattle.gds_pack.specs.Packed.{packed_size, block_bytes}
-use Rattle.gds_tryout.specs.Entries.{SetsValue}
-use Rattle.gds_tryout.specs.Outcome.{WouldSet}
-use Rattle.gds_tryout.proofs.LeafLemmas.{leaf_file, leaf_within, leaf_block}
+use Rattle.gds_pack.specs.Packed.{block_bytes}
+use Rattle.gds_tryout.proofs.LeafLemmas.{leaf_file, leaf_within}
 use Rattle.gds_tryout.proofs.ValueLemmas.{set_packable}
 use Rattle.gds_tryout.proofs.values.replace_in.Goals as goal
 
@@ -30,15 +27,18 @@ put_block-requires-clause-packable c =
     (c.if-not-set_value.ensures.set refl) c.requires.short
 
 pub returns-then-packed_size-from : goal.returns-then-packed_size-from
-returns-then-packed_size-from c = (refl, record {
-  change = record {
-    before = items c.args.entries.now;
-    after = items c.set_value.new.entries;
-    found = c.requires.entries;
-    sets = c.if-not-set_value.ensures.set refl;
-  };
-  large = omega (arith, c.packed_size.ensures, c.from.ensures, c.if-packed_size-from.true);
-})
+returns-then-packed_size-from c = (
+  refl,
+  record {
+    change = record {
+      before = items c.args.entries.now;
+      after = items c.set_value.new.entries;
+      found = c.requires.entries;
+      sets = c.if-not-set_value.ensures.set refl;
+    };
+    large = omega (arith, c.packed_size.ensures, c.from.ensures, c.if-packed_size-from.true);
+  },
+)
 
 pub returns : goal.returns
 returns c =

@@ -1,5 +1,4 @@
-use Rattle.std.proofs.Common.{◌≡◌, ◌∙◌, ℕ, ◌<◌, List, Some, refl, sym, ap, subst, arith}
-use Rattle.std.specs.Prelude.{option_map}
+use Rattle.std.proofs.Common.{◌∙◌, ◌<◌, Some, refl, sym, ap, subst, arith}
 use Rattle.std.proofs.lemmas.List.Elements.{All-from_get_or}
 use Rattle.gds_header.specs.Fields.{block_of}
 use Rattle.gds_pack.specs.Entry.{items}
@@ -20,9 +19,11 @@ read_entries-requires-clause-there c =
 
 pub returns-in_default-clause-became : goal.returns-in_default-clause-became
 returns-in_default-clause-became c =
-    let read = c.in_ok-entries.ensures (leaf_block c.args.file.now c.args.leaf c.requires.leaf) in
-    (refl, λ entries found. absurd (none_read (λ v. items v.items) c.in_ok-entries.field-0
-    (entries_of (block_of c.args.file.now c.args.leaf)) read c.in_default.is entries found))
+    let read = c.in_ok-entries.ensures (leaf_block c.args.file.now c.args.leaf c.requires.leaf) in (
+      refl,
+      λ entries found. absurd (none_read (λ v. items v.items) c.in_ok-entries.field-0
+          (entries_of (block_of c.args.file.now c.args.leaf)) read c.in_default.is entries found),
+    )
 
 pub replace_in-requires-clause-entries : goal.replace_in-requires-clause-entries
 replace_in-requires-clause-entries c =
