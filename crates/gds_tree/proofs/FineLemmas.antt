@@ -1,6 +1,7 @@
 -- With a block whose records are those of lawful entries nothing is wrong; its items and children are by the entries.
 use Rattle.std.proofs.Common.{◌≡◌, ℕ, zero, suc, ◌+◌, ◌-◌, ◌<◌, ◌≤◌, ◌==◌, Bool, true, false, not, ◌&&◌, List, [], ◌∷◌}
-use Rattle.std.proofs.Common.{◌++◌, length, map, take, drop, if◌then◌else◌, Option, None, Some, ◌⊎◌, inl, inr, refl, sym}
+use Rattle.std.proofs.Common.{◌++◌, length, map, take, drop, if◌then◌else◌, Option, None, Some, ◌⊎◌, inl, inr, refl}
+use Rattle.std.proofs.Common.{sym}
 use Rattle.std.proofs.Common.{ap, subst, ◌∙◌, arith}
 use Rattle.std.specs.Prelude.{◌^◌, nat_lt}
 use Rattle.std.specs.List.{AllByRecursion}
@@ -40,7 +41,8 @@ before_next at previous e before key =
 abbrev pub Lawful : BlockReading → List Item → Type 0
 Lawful b es = AllByRecursion (IsLawfulEntry b.header b.visit b.level) es
 
-module _ (b : BlockReading) (bytes : List ℕ) (total : b.header.total ≤ 2 ^ 31) (ended : bytes_left bytes b.used ≡ []) where
+module _ (b : BlockReading) (bytes : List ℕ) (total : b.header.total ≤ 2 ^ 31)
+    (ended : bytes_left bytes b.used ≡ []) where
   pub record_end : (at : ℕ) (previous : List ℕ) (e : Item)
       → at + size_of (seen previous (packed_record at previous e)) ≡ at + record_size previous e
   record_end at previous e = omega (arith, packed_length at previous e)

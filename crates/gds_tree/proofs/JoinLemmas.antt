@@ -1,5 +1,6 @@
 -- Lawful lists of entries that are joined and changed.
-use Rattle.std.proofs.Common.{◌≡◌, ℕ, zero, suc, ◌≤◌, List, [], ◌∷◌, ◌++◌, length, Option, None, Some, Less, inl, inr, refl, sym}
+use Rattle.std.proofs.Common.{◌≡◌, ℕ, zero, suc, ◌≤◌, List, [], ◌∷◌, ◌++◌, length, Option, None, Some, Less, inl, inr}
+use Rattle.std.proofs.Common.{refl, sym}
 use Rattle.std.proofs.Common.{ap, subst, ◌∙◌, append_assoc}
 use Rattle.std.specs.Prelude.{⊤, All, ◌≢◌}
 use Rattle.std.specs.List.{AllByRecursion}
@@ -13,7 +14,8 @@ use Rattle.m_key.specs.Key.{AtMost, Below}
 use Rattle.m_key.specs.KeyEnd.{IsKey}
 use Rattle.gds_pack.specs.Packed.{key_behind}
 use Rattle.gds_pack.specs.Packable.{IsNext, AreLeaves, AreIndex, ArePackable}
-use Rattle.gds_tree.specs.Lawful.{IsOfRole, IsPointer, IsAboveLow, IsBelowHigh, IsLawfulRest, IsLawfulKey, IsLawfulEntry}
+use Rattle.gds_tree.specs.Lawful.{IsOfRole, IsPointer, IsAboveLow, IsBelowHigh, IsLawfulRest, IsLawfulKey}
+use Rattle.gds_tree.specs.Lawful.{IsLawfulEntry}
 use Rattle.gds_tree.specs.Lawful.{MayBeEmpty, IsLawful}
 use Rattle.gds_tree.specs.Below.{below_key, from_key, with_key}
 use Rattle.gds_tree.proofs.TestLemmas.{below_less, less_below, most_from, below_most}
@@ -21,7 +23,8 @@ use Rattle.gds_tree.proofs.FineLemmas.{some_key}
 use Rattle.gds_tree.proofs.BelowLemmas.{all_left, all_right, all_both, all_weaker}
 use Rattle.gds_tree.proofs.KeepLemmas.{pointers}
 use Rattle.gds_tree.proofs.ItemLemmas.{keys_lawful, leaves_both, below_to_high, above_key}
-use Rattle.gds_tree.proofs.ListLemmas.{Keys, Fours, leaves_left, leaves_right, leaves_join, leaves_less, IsFront, index_front}
+use Rattle.gds_tree.proofs.ListLemmas.{Keys, Fours, leaves_left, leaves_right, leaves_join, leaves_less, IsFront}
+use Rattle.gds_tree.proofs.ListLemmas.{index_front}
 use Rattle.gds_tree.proofs.ListLemmas.{index_cons, index_join, nothing_less}
 use Rattle.gds_tree.proofs.LawfulLemmas.{moved, each}
 
@@ -115,8 +118,7 @@ index_joined h v level k a m b l r is_key lawful =
       each = All-from_recursion (IsLawfulEntry h v (suc level)) (a ++ with_key k m ∷ b)
           (all_both (IsLawfulEntry h v (suc level)) a (with_key k m ∷ b)
           (all_moved h c v (suc level) a refl
-          (λ key q. (q.above, below_to_high v.high k key lawful.below q.below)) first)
-          (
+          (λ key q. (q.above, below_to_high v.high k key lawful.below q.below)) first) (
             record { key = λ some. lawful; rest = star.rest },
             all_moved h d v (suc level) b refl (λ key q. (above_on level v.low k key lawful.above q.above, q.below))
                 second,

@@ -1,5 +1,6 @@
 -- Lawful lists of entries that are cut, joined and changed.
-use Rattle.std.proofs.Common.{◌≡◌, ℕ, zero, suc, ◌≤◌, List, [], ◌∷◌, ◌++◌, length, Option, None, Some, Less, inl, inr, refl, sym}
+use Rattle.std.proofs.Common.{◌≡◌, ℕ, zero, suc, ◌≤◌, List, [], ◌∷◌, ◌++◌, length, Option, None, Some, Less, inl, inr}
+use Rattle.std.proofs.Common.{refl, sym}
 use Rattle.std.proofs.Common.{ap, subst, ◌∙◌}
 use Rattle.std.specs.Prelude.{⊤}
 use Rattle.std.specs.List.{AllByRecursion}
@@ -12,7 +13,8 @@ use Rattle.m_key.specs.Key.{AtMost, Below}
 use Rattle.m_key.specs.KeyEnd.{IsKey}
 use Rattle.gds_pack.specs.Packed.{key_behind, first_key}
 use Rattle.gds_pack.specs.Packable.{IsNext, AreLeaves, AreIndex, ArePackable}
-use Rattle.gds_tree.specs.Lawful.{IsOfRole, IsPointer, IsAboveLow, IsBelowHigh, IsLawfulRest, IsLawfulKey, IsLawfulEntry}
+use Rattle.gds_tree.specs.Lawful.{IsOfRole, IsPointer, IsAboveLow, IsBelowHigh, IsLawfulRest, IsLawfulKey}
+use Rattle.gds_tree.specs.Lawful.{IsLawfulEntry}
 use Rattle.gds_tree.specs.Lawful.{MayBeEmpty, IsLawful}
 use Rattle.gds_tree.specs.Below.{below_key, from_key, as_star, with_key}
 use Rattle.gds_tree.proofs.TestLemmas.{below_less, most_from}
@@ -20,7 +22,8 @@ use Rattle.gds_tree.proofs.FineLemmas.{some_key}
 use Rattle.gds_tree.proofs.BelowLemmas.{all_left, all_right, all_both}
 use Rattle.gds_tree.proofs.WidenLemmas.{most_same}
 use Rattle.gds_tree.proofs.ItemLemmas.{AreItems, keys_lawful, leaves_both, below_to_high, above_key}
-use Rattle.gds_tree.proofs.ListLemmas.{Keys, leaves_first, leaves_left, leaves_right, leaves_join, keys_below, keys_above}
+use Rattle.gds_tree.proofs.ListLemmas.{Keys, leaves_first, leaves_left, leaves_right, leaves_join, keys_below}
+use Rattle.gds_tree.proofs.ListLemmas.{keys_above}
 use Rattle.gds_tree.proofs.ListLemmas.{index_first, IsFront, index_front, index_join, KeyedAbove, keyed_above}
 
 -- ---- one entry at another visit

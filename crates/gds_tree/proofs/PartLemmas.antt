@@ -54,9 +54,11 @@ module _ (image : List ℕ) (i : IsImage image) where
       subst (λ (w : Tree). Numbered w.blocks) (sym p.is) (n, tt)
   numbered (suc level) v t n h =
       let p = by_index image v level t i n.within h in
-      subst (λ (w : Tree). Numbered w.blocks) (sym p.is)
-      (n, below_numbered v level v.low p.es p.below (numbered level) (lawful_index image v (suc level) p.es p.has)
-      p.trees)
+      subst (λ (w : Tree). Numbered w.blocks) (sym p.is) (
+        n,
+        below_numbered v level v.low p.es p.below (numbered level) (lawful_index image v (suc level) p.es p.has)
+            p.trees,
+      )
 
   -- They are below the total also where only that is known of the root's block.
   pub low_blocks : (level : ℕ) (v : Visit) (t : Tree) → v.block < (fields_of image).total
@@ -68,9 +70,11 @@ module _ (image : List ℕ) (i : IsImage image) where
       let p = by_index image v level t i low h in
       let below = below_numbered v level v.low p.es p.below (numbered level)
       (lawful_index image v (suc level) p.es p.has) p.trees in
-      subst (λ (w : Tree). AllByRecursion (λ n. n < (fields_of image).total) w.blocks) (sym p.is)
-      (low, all_weaker (IsTreeNumber (fields_of image).total) (λ n. n < (fields_of image).total) p.below.blocks
-      (λ n k. k.within) below)
+      subst (λ (w : Tree). AllByRecursion (λ n. n < (fields_of image).total) w.blocks) (sym p.is) (
+        low,
+        all_weaker (IsTreeNumber (fields_of image).total) (λ n. n < (fields_of image).total) p.below.blocks
+            (λ n k. k.within) below,
+      )
 
   -- the roots that a directory names are below the total too
   abbrev RootedAt : ℕ → Type 0

@@ -1,6 +1,7 @@
 -- The records of a block with which nothing is wrong are those of lawful entries, which fill its used bytes.
 use Rattle.std.proofs.Common.{◌≡◌, ℕ, zero, suc, ◌+◌, ◌-◌, ◌<◌, ◌≤◌, ◌==◌, Bool, true, false, not, ◌&&◌, ◌||◌, List, []}
-use Rattle.std.proofs.Common.{◌∷◌, ◌++◌, length, map, take, drop, if◌then◌else◌, Option, None, Some, inl, inr, refl, sym}
+use Rattle.std.proofs.Common.{◌∷◌, ◌++◌, length, map, take, drop, if◌then◌else◌, Option, None, Some, inl, inr, refl}
+use Rattle.std.proofs.Common.{sym}
 use Rattle.std.proofs.Common.{ap, subst, ◌∙◌, arith}
 use Rattle.std.specs.Prelude.{⊤, nat_lt, nat_le, nat_eq, IsTrue, is_none}
 use Rattle.std.specs.List.{AllByRecursion}
@@ -14,7 +15,8 @@ use Rattle.gds_block.specs.Record.{Record, AreRecords, bytes_left, is_well_sized
 use Rattle.gds_block.specs.Record as block
 use Rattle.gds_block.proofs.RecordLemmas.{Fits, Fits-from_well_sized}
 use Rattle.gds_law.specs.Visit.{TreeRole, directory, global, Visit}
-use Rattle.gds_law.specs.BlockReading.{BlockReading, PlacedRecord, is_last, size_of, key_of, rest_of, has_values, points}
+use Rattle.gds_law.specs.BlockReading.{BlockReading, PlacedRecord, is_last, size_of, key_of, rest_of, has_values}
+use Rattle.gds_law.specs.BlockReading.{points}
 use Rattle.gds_law.specs.Record.{kinds_of, is_ended}
 use Rattle.gds_law.specs.Block.{size_kinds, kinds_from}
 use Rattle.gds_law.specs.declared.kind.FaultKind.{FaultKind}
@@ -23,7 +25,8 @@ use Rattle.gds_pack.specs.Packed.{record_size, records_size, packed_record, pack
 use Rattle.gds_pack.specs.Packable.{IsNext, AreLeaves, AreIndex}
 use Rattle.gds_sound.proofs.BlockLemmas.{nil_parts, map_nil, seen, IsCleanRecord, clean_record, not_last}
 use Rattle.gds_tree.specs.Lawful.{IsLawfulEntry}
-use Rattle.gds_tree.proofs.EntryLemmas.{entry_at, record_is, next_is, lawful_entry, rest_size, star_at, star_is, star_size}
+use Rattle.gds_tree.proofs.EntryLemmas.{entry_at, record_is, next_is, lawful_entry, rest_size, star_at, star_is}
+use Rattle.gds_tree.proofs.EntryLemmas.{star_size}
 use Rattle.gds_tree.proofs.EntryLemmas.{lawful_star}
 
 -- These are the records of lawful entries from an offset on and behind a key, up to the used count.
@@ -103,7 +106,8 @@ is_first_of bytes b level at left r same used well e =
     }
 
 -- no record where nothing is left
-none_behind : (level at : ℕ) (left : List ℕ) (rs : List Record) → AreRecords level at left rs → length left ≡ 0 → rs ≡ []
+none_behind : (level at : ℕ) (left : List ℕ) (rs : List Record) → AreRecords level at left rs → length left ≡ 0
+    → rs ≡ []
 none_behind level at left [] a h = refl
 none_behind level at left (r ∷ rs) a h =
     let fits = Fits-from_well_sized level left a.0 in

@@ -1,6 +1,8 @@
 -- A sound tree whose blocks get other numbers.
-use Rattle.std.proofs.Common.{◌≡◌, ℕ, zero, suc, ◌+◌, ◌-◌, ◌^◌, ◌<◌, ◌≤◌, ◌==◌, Bool, true, false, List, [], ◌∷◌, ◌++◌, length}
-use Rattle.std.proofs.Common.{map, Option, None, Some, option_map, if◌then◌else◌, inl, inr, refl, sym, ap, subst, ◌∙◌, arith, append-nil}
+use Rattle.std.proofs.Common.{◌≡◌, ℕ, zero, suc, ◌+◌, ◌-◌, ◌^◌, ◌<◌, ◌≤◌, ◌==◌, Bool, true, false, List, [], ◌∷◌}
+use Rattle.std.proofs.Common.{◌++◌, length}
+use Rattle.std.proofs.Common.{map, Option, None, Some, option_map, if◌then◌else◌, inl, inr, refl, sym, ap, subst, ◌∙◌}
+use Rattle.std.proofs.Common.{arith, append-nil}
 use Rattle.std.specs.Prelude.{⊤, nat_eq, All}
 use Rattle.std.specs.List.{AllByRecursion}
 use Rattle.std.proofs.lemmas.Bool.{cond_both}
@@ -19,7 +21,8 @@ use Rattle.gds_pack.specs.Packed.{record_size, records_size, packed_size}
 use Rattle.gds_pack.specs.Packable.{IsNext, AreLeaves, AreIndex, ArePackable}
 use Rattle.gds_pack.specs.Unpacked.{entries_of}
 use Rattle.gds_sound.specs.Sound.{Tree, joined, sound_tree}
-use Rattle.gds_tree.specs.Lawful.{IsTreeNumber, IsPointer, IsLawfulRest, IsLawfulKey, IsLawfulEntry, MayBeEmpty, IsLawful}
+use Rattle.gds_tree.specs.Lawful.{IsTreeNumber, IsPointer, IsLawfulRest, IsLawfulKey, IsLawfulEntry, MayBeEmpty}
+use Rattle.gds_tree.specs.Lawful.{IsLawful}
 use Rattle.gds_tree.specs.RightBlock.{IsDueLevel, IsStamped, HasRightHead, IsRightBlock}
 use Rattle.gds_tree.specs.Below.{high_below, visit_below, both, trees_below, HasEntries, leaf_tree, index_tree}
 use Rattle.gds_tree.specs.Keeps.{IsImage, KeepsSizes}
@@ -43,7 +46,8 @@ module _ (old new : List ℕ) (number : ℕ → ℕ) (i : IsImage old) (j : IsIm
 
   leads : (rest : List ℕ) → IsPointer (fields_of old) rest
       → u32_at (u32_bytes (number (u32_at rest 0))) 0 ≡ number (u32_at rest 0)
-  leads rest p = pointer_read (number (u32_at rest 0)) (small (number (u32_at rest 0)) (numbers (u32_at rest 0) p.leads))
+  leads rest p = pointer_read (number (u32_at rest 0))
+      (small (number (u32_at rest 0)) (numbers (u32_at rest 0) p.leads))
 
   pointer_moved : (rest : List ℕ) → IsPointer (fields_of old) rest
       → IsPointer (fields_of new) (u32_bytes (number (u32_at rest 0)))
@@ -200,7 +204,8 @@ module _ (old new : List ℕ) (number : ℕ → ℕ) (i : IsImage old) (j : IsIm
             used = r.used ∙ right.head.used ∙ sym m.size;
             fits = omega (arith, m.size, right.head.fits, sizes.block_size);
           };
-          found = r.entries ∙ ap (option_map (renumbered_entries number v.role (level_of (block_of old v.block)))) right.found
+          found = r.entries
+              ∙ ap (option_map (renumbered_entries number v.role (level_of (block_of old v.block)))) right.found
               ∙ ap (λ k. Some (renumbered_entries number v.role k es)) has.level;
           lawful = subst (λ k. IsLawful (fields_of new) (renumbered_visit number v) k fs) (sym height)
               (elsewhere (fields_of new) v (renumbered_visit number v) level fs m.lawful refl refl refl);
@@ -215,7 +220,8 @@ module _ (old new : List ℕ) (number : ℕ → ℕ) (i : IsImage old) (j : IsIm
   role_append (global name) xs ys = refl
 
   joined_moved : (role : TreeRole) (a b : Tree)
-      → joined (renumbered_tree number role a) (renumbered_tree number role b) ≡ renumbered_tree number role (joined a b)
+      → joined (renumbered_tree number role a) (renumbered_tree number role b)
+      ≡ renumbered_tree number role (joined a b)
   joined_moved role a b = sym (λ k. record {
     blocks = map-append number a.blocks b.blocks k;
     items = role_append role a.items b.items k;

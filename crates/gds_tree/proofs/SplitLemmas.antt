@@ -1,5 +1,6 @@
 -- An index block in two pieces, and a root that is split.
-use Rattle.std.proofs.Common.{◌≡◌, ℕ, zero, suc, ◌<◌, ◌≤◌, List, [], ◌∷◌, ◌++◌, drop, Option, None, Some, refl, sym, ap, subst}
+use Rattle.std.proofs.Common.{◌≡◌, ℕ, zero, suc, ◌<◌, ◌≤◌, List, [], ◌∷◌, ◌++◌, drop, Option, None, Some, refl, sym}
+use Rattle.std.proofs.Common.{ap, subst}
 use Rattle.std.proofs.Common.{◌∙◌, append_assoc}
 use Rattle.std.specs.List.{AllByRecursion}
 use Rattle.std.proofs.lemmas.List.Elements.{recursion_from_All, All-from_recursion}
@@ -11,11 +12,13 @@ use Rattle.gds_pack.specs.Unpacked.{entries_of}
 use Rattle.gds_sound.specs.Sound.{Tree, joined, sound_tree}
 use Rattle.m_key.specs.KeyEnd.{IsKey}
 use Rattle.gds_tree.specs.Lawful.{IsLawfulEntry}
-use Rattle.gds_tree.specs.Below.{as_star, high_below, low_behind, visit_below, both, trees_below, HasEntries, index_tree}
+use Rattle.gds_tree.specs.Below.{as_star, high_below, low_behind, visit_below, both, trees_below, HasEntries}
+use Rattle.gds_tree.specs.Below.{index_tree}
 use Rattle.gds_tree.specs.Keeps.{IsImage, KeepsSizes, KeepsBlocks}
 use Rattle.gds_tree.specs.Split.{PartsAt, InTwoPieces}
 use Rattle.gds_tree.proofs.FineLemmas.{some_key}
-use Rattle.gds_tree.proofs.BelowLemmas.{all_left, all_right, AreBoth, both_parts, some_both, below_append, low_append, joined_none}
+use Rattle.gds_tree.proofs.BelowLemmas.{all_left, all_right, AreBoth, both_parts, some_both, below_append, low_append}
+use Rattle.gds_tree.proofs.BelowLemmas.{joined_none}
 use Rattle.gds_tree.proofs.PartLemmas.{lawful_index}
 use Rattle.gds_tree.proofs.ItemLemmas.{packable}
 use Rattle.gds_tree.proofs.ReplaceLemmas.{forest_grown}
@@ -78,7 +81,8 @@ module _ (old new : List ℕ) (v : Visit) (level : ℕ) (a : List Item) (m f : I
       let trees =
       sym (below_append old v level v.low front (f ∷ b))
       ∙ ap (trees_below old v level v.low) (regrouped ∙ sym same) ∙ x.trees in
-      let p = both_parts (trees_below old v level v.low front) (trees_below old v level (low_behind v.low front) (f ∷ b))
+      let p = both_parts (trees_below old v level v.low front)
+      (trees_below old v level (low_behind v.low front) (f ∷ b))
       x.below trees in
       let low : low_behind v.low front ≡ Some m.key = low_append v.low a (m ∷ []) in
       let whole : t ≡ index_tree v (joined p.first p.second) = x.is ∙ ap (index_tree v) p.is in
@@ -98,7 +102,8 @@ module _ (old new : List ℕ) (v : Visit) (level : ℕ) (a : List Item) (m f : I
       }
 
   module _ (left right : Visit) (parts : PartsAt v m.key left right)
-      (first : HasEntries new left (suc level) (a ++ as_star m ∷ [])) (last : HasEntries new right (suc level) (f ∷ b)) where
+      (first : HasEntries new left (suc level) (a ++ as_star m ∷ []))
+      (last : HasEntries new right (suc level) (f ∷ b)) where
     pub split_block : InTwoPieces new v level left right t
     split_block =
         let p = parted in
@@ -150,5 +155,5 @@ module _ (old new : List ℕ) (v : Visit) (level : ℕ) (a : List Item) (m f : I
           two.behind,
           two.whole,
           index_by new v (suc level) (p ∷ q ∷ []) (joined x y) j now
-          (trees ∙ ap (λ w. Some (joined x w)) (joined_none y)),
+              (trees ∙ ap (λ w. Some (joined x w)) (joined_none y)),
         )

@@ -6,7 +6,8 @@ use Rattle.std.specs.Prelude.{◌^◌, nat_lt, nat_le, is_none, bytes_eq}
 use Rattle.std.specs.Ordering.{is_le, ordering_reverse}
 use Rattle.std.specs.Cmp.Lexicographic.{slice_cmp}
 use Rattle.std.proofs.lemmas.Bool.{not-false, eqb-true, eqb-false, eq-eqb, ne_eqb, lt-ltb, le-ltb, ltb-true, ltb-false}
-use Rattle.std.proofs.lemmas.Bool.{le-leb, lt-leb, leb-true, and_left, and_right, and_parts, and_from, and_cases, or_parts}
+use Rattle.std.proofs.lemmas.Bool.{le-leb, lt-leb, leb-true, and_left, and_right, and_parts, and_from, and_cases}
+use Rattle.std.proofs.lemmas.Bool.{or_parts}
 use Rattle.std.proofs.lemmas.Bool.{or_from, not_from_false, not_from_true, cond-true, cond-false, true≢false, not-true}
 use Rattle.std.proofs.lemmas.Bool.{false_from_ne_true}
 use Rattle.std.proofs.lemmas.Cmp.{tied_itself}

@@ -7,7 +7,8 @@ use Rattle.std.specs.List.{list_any, AllByRecursion}
 use Rattle.std.proofs.lemmas.Bool.{cond-false, cases_Bool, and_right, or_from, not_from_true, eq-eqb, lt-leb, cond_both}
 use Rattle.std.proofs.lemmas.List.{drop-drop}
 use Rattle.gds_block.specs.Block.{version_of, reserved_of, level_of, used_of, tn_of}
-use Rattle.gds_block.specs.Record.{Record, records_of, records_up_to, records_from, first_record, is_well_sized, bytes_left}
+use Rattle.gds_block.specs.Record.{Record, records_of, records_up_to, records_from, first_record, is_well_sized}
+use Rattle.gds_block.specs.Record.{bytes_left}
 use Rattle.gds_block.specs.Record as block
 use Rattle.gds_header.specs.declared.header.Header.{Header}
 use Rattle.gds_header.specs.Kinds.{through_first}
@@ -36,7 +37,8 @@ any_through {A} test (x ∷ xs) = by (test x) refl (any_through test xs)
     by true e next = ap (λ b. b || false) e ∙ sym (ap (λ b. b || list_any test xs) e)
     by false e next = ap (λ b. test x || b) next
 
--- Two lists that are filtered out of one have an element that passes where each element does in the one as in the other.
+-- Two lists that are filtered out of one have an element that passes where each element does in the one as in the
+-- other.
 any_filtered : {A : Type 0} (test p q : A → Bool) (xs : List A)
     → AllByRecursion (λ x. (p x && test x) ≡ (q x && test x)) xs
     → list_any test (filter p xs) ≡ list_any test (filter q xs)
@@ -57,8 +59,7 @@ pub head_ends : (b : BlockReading) (x y : List ℕ)
 unfolding kinds_of_head
 head_ends b x y =
     any_through ends (filter (head_holds b x) head_kinds)
-    ∙ any_filtered ends (head_holds b x) (head_holds b y) head_kinds
-    (
+    ∙ any_filtered ends (head_holds b x) (head_holds b y) head_kinds (
       and_right (head_holds b x BadVersion) false refl ∙ sym (and_right (head_holds b y BadVersion) false refl),
       (
         and_right (head_holds b x TransactionTooNew) false refl

@@ -1,5 +1,6 @@
 -- A sound tree is so within wider bounds too.
-use Rattle.std.proofs.Common.{◌≡◌, ℕ, zero, suc, ◌<◌, ◌≤◌, List, [], ◌∷◌, Option, None, Some, Less, ◌⊎◌, inl, inr, refl, sym}
+use Rattle.std.proofs.Common.{◌≡◌, ℕ, zero, suc, ◌<◌, ◌≤◌, List, [], ◌∷◌, Option, None, Some, Less, ◌⊎◌, inl, inr}
+use Rattle.std.proofs.Common.{refl, sym}
 use Rattle.std.proofs.Common.{ap, subst, ◌∙◌}
 use Rattle.std.specs.List.{AllByRecursion}
 use Rattle.std.proofs.lemmas.List.Elements.{All-weaker}
@@ -11,7 +12,8 @@ use Rattle.gds_header.specs.Fields.{fields_of, block_of}
 use Rattle.gds_law.specs.Visit.{TreeRole, Visit}
 use Rattle.gds_sound.specs.Sound.{Tree, sound_tree}
 use Rattle.m_key.specs.Key.{AtMost, Below}
-use Rattle.gds_tree.specs.Lawful.{IsOfRole, IsAboveLow, IsBelowHigh, IsLawfulRest, IsLawfulKey, IsLawfulEntry, MayBeEmpty}
+use Rattle.gds_tree.specs.Lawful.{IsOfRole, IsAboveLow, IsBelowHigh, IsLawfulRest, IsLawfulKey, IsLawfulEntry}
+use Rattle.gds_tree.specs.Lawful.{MayBeEmpty}
 use Rattle.gds_tree.specs.RightBlock.{IsDueLevel, IsRightBlock}
 use Rattle.gds_tree.specs.Below.{high_below, visit_below, both, trees_below, HasEntries, leaf_tree, index_tree}
 use Rattle.gds_tree.specs.Keeps.{IsImage, IsLowerLow, IsHigherHigh, IsWider}
