@@ -234,7 +234,8 @@ module _ (h : Header) (extent : ℕ) (plan units : List WaitingUnit) (is : IsPla
     pub is_carried_out : 0 < h.block_size → fields_of (patched h.block_size units db) ≡ h
         → IsCarriedOut h plan (patched h.block_size units db) (patched (header_after h plan).block_size carried db)
     is_carried_out some fields =
-        subst (λ size. IsCarriedOut h plan (patched h.block_size units db) (patched size carried db)) (sym is.block_size)
+        subst (λ size. IsCarriedOut h plan (patched h.block_size units db) (patched size carried db))
+            (sym is.block_size)
         (record {
           len = ap length file_carried ∙ length-patched h.block_size plan (patched h.block_size left db) plan_in_base
               ∙ base_long ∙ sym old_long;
@@ -310,7 +311,8 @@ module _ {H : Type 0} {told : H → Option Contents} {moment : H → ℕ} {left_
   -- after a plan
   module _ (plan : List WaitingUnit) (is : IsPlan h extent plan) (next : Header)
       (reserved dropped now : List WaitingUnit) (is_next : next ≡ header_after h plan) (unchanged : reserved ≡ units)
-      (drops : dropped ≡ up_to next.total reserved) (rising : IsRising dropped) (puts : now ≡ with_plan dropped plan) where
+      (drops : dropped ≡ up_to next.total reserved) (rising : IsRising dropped)
+          (puts : now ≡ with_plan dropped plan) where
     rising_left : IsRising (up_to (header_after h plan).total units)
     rising_left = subst IsRising (dropped_is h next plan units reserved dropped now is_next unchanged drops puts) rising
 

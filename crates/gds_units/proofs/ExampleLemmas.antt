@@ -1,5 +1,6 @@
 -- Calls on units one after another, as a caller makes them.
-use Rattle.std.proofs.Common.{◌≡◌, ◌⊎◌, ℕ, ◌≤◌, ◌++◌, List, length, take, Option, None, Some, refl, sym, ap, subst, ◌∙◌, inl, inr}
+use Rattle.std.proofs.Common.{◌≡◌, ◌⊎◌, ℕ, ◌≤◌, ◌++◌, List, length, take, Option, None, Some, refl, sym, ap, subst, ◌∙◌}
+use Rattle.std.proofs.Common.{inl, inr}
 use Rattle.std.proofs.Common.{⊎_elim}
 use Rattle.std.specs.Option.{ForSome}
 use Rattle.std.specs.Prelude.{option_map}
@@ -40,7 +41,8 @@ carried_told h plan old new file is tells =
     told_now a b x e both = TellsOn-some a b (IsCarriedOut h plan) x e both
 
 -- a saying of which nothing has come yet
-unsaid : (bytes image text : List ℕ) (c : Contents) → Stores image text c → during (SaysSome bytes) (Stores image text) c
+unsaid : (bytes image text : List ℕ) (c : Contents) → Stores image text c
+    → during (SaysSome bytes) (Stores image text) c
 unsaid bytes image text c stored = (c, stored, SaysSome-refl bytes c)
 
 -- with more said the same is found
@@ -148,7 +150,8 @@ module _ {H : Type 0} (told : H → Option Contents) (moment : H → ℕ) (left_
     way_said mid new first stored saying_it =
         then_more moment left_since old mid new OnTheWay first
         (weaker moment left_since mid new (during (SaysSome bytes) (AsBefore moment left_since mid)) OnTheWay
-        (λ c is. inr (inr (is.0, stores_then moment left_since longer next before.said (left_since mid (moment mid)) is.0
+        (λ c is. inr (inr (is.0, stores_then moment left_since longer next before.said
+            (left_since mid (moment mid)) is.0
         stored is.1, is.2))) saying_it)
 
     pub stored_said : (mid new : H) → IsStored moment left_since next before.said mid

@@ -1,5 +1,6 @@
 -- What is known of units after a call on their host.
-use Rattle.std.proofs.Common.{◌≡◌, ◌⊎◌, ℕ, ◌-◌, ◌^◌, ◌<◌, ◌≤◌, Bool, true, false, List, [], length, take, Option, None, Some}
+use Rattle.std.proofs.Common.{◌≡◌, ◌⊎◌, ℕ, ◌-◌, ◌^◌, ◌<◌, ◌≤◌, Bool, true, false, List, [], length, take, Option, None}
+use Rattle.std.proofs.Common.{Some}
 use Rattle.std.proofs.Common.{refl, sym, ap, subst, ◌∙◌, arith, length-take, replicate, inl, inr, true≢false, ◌∷◌}
 use Rattle.std.specs.Option.{ForSome}
 use Rattle.std.specs.Prelude.{All, option_map}
@@ -144,14 +145,16 @@ module _ {H : Type 0} {told : H → Option Contents} {moment : H → ℕ} {left_
         long = omega (arith, are.places.epoch, held.long);
         rest = rests_itself now_left host c epoch images tells resting;
         old = resting.old;
-        inside = inside_more h.block_size (file_length_of h) (length c.db) units (omega (arith, are.places.now, held.long))
+        inside = inside_more h.block_size (file_length_of h) (length c.db) units
+            (omega (arith, are.places.now, held.long))
             are.places.inside;
         kept = are.places.kept;
         whole = held.whole;
       }
 
   -- A call that keeps the front of the file leaves units, which reach as far as is known now.
-  module _ (old new : H) (h : Header) (units : List WaitingUnit) (images : List Image) (epoch extent : ℕ) (stopped : Bool)
+  module _ (old new : H) (h : Header) (units : List WaitingUnit) (images : List Image) (epoch extent : ℕ)
+      (stopped : Bool)
       (are : AreUnits told moment left_since old h units images epoch extent stopped) (going : stopped ≡ false)
       (n : ℕ) (is_n : n ≡ file_length_of h) (within : epoch ≤ n)
       (untold : told old ≡ None → told new ≡ None) (tells : TellsOn (told old) (told new) (KeepsFront n)) where
@@ -251,7 +254,8 @@ module _ {H : Type 0} {told : H → Option Contents} {moment : H → ℕ} {left_
       EachLeft moment left_since new (Rests (database_of (patched h.block_size units c.db)) c))
       → (none : List WaitingUnit) (clear : List Image) (n : ℕ) → none ≡ [] → clear ≡ [] → n ≡ file_length_of h
       → AreUnits told moment left_since new h none clear n extent stopped
-  after_epoch old new h units images epoch extent stopped are going untold tells rests none clear n is_none is_clear is_n =
+  after_epoch old new h units images epoch extent stopped are going untold tells rests none clear n is_none is_clear
+      is_n =
       let before : (d : Contents) → told new ≡ Some d
       → (c : Contents) × (told old ≡ Some c) × IsDone h.block_size units c d =
       λ d is. told_before (told old) (told new) (IsDone h.block_size units) d untold is tells in
@@ -268,7 +272,8 @@ module _ {H : Type 0} {told : H → Option Contents} {moment : H → ℕ} {left_
           now = places.now;
           short = places.short;
           inside = inside (file_length_of h);
-          kept = subst (λ us. All (IsKept h.block_size n clear) us) (sym is_none) (All-nil (IsKept h.block_size n clear));
+          kept = subst (λ us. All (IsKept h.block_size n clear) us) (sym is_none)
+              (All-nil (IsKept h.block_size n clear));
           none = λ e. is_n;
         };
         held = λ d is.
@@ -291,7 +296,8 @@ module _ {H : Type 0} {told : H → Option Contents} {moment : H → ℕ} {left_
             let past = before d is in
             let held = are.held past.0 past.1 in
             let same : take n d.db ≡ database_of (patched h.block_size units past.0.db) =
-            ap (λ k. take k d.db) (is_n ∙ sym (ap file_length_of held.fields)) ∙ ap (take (image_length (patched h.block_size units past.0.db))) past.2.db in
+            ap (λ k. take k d.db) (is_n ∙ sym (ap file_length_of held.fields))
+                ∙ ap (take (image_length (patched h.block_size units past.0.db))) past.2.db in
             record {
               each = λ x left.
                   let at_rest = rests past.0 past.1 x left in record {
@@ -303,7 +309,8 @@ module _ {H : Type 0} {told : H → Option Contents} {moment : H → ℕ} {left_
       }
 
   -- One that failed leaves units on which nothing is written any more.
-  pub after_failure : (old new : H) (h : Header) (units : List WaitingUnit) (images later : List Image) (epoch extent : ℕ)
+  pub after_failure : (old new : H) (h : Header) (units : List WaitingUnit) (images later : List Image)
+      (epoch extent : ℕ)
       (stopped : Bool) → AreUnits told moment left_since old h units images epoch extent stopped → later ≡ images
       → (told old ≡ None → told new ≡ None) → TellsOn (told old) (told new) (StaysPatched h.block_size units)
       → ForSome (told old) (λ c. let either = FindsEither h.block_size epoch units c in

@@ -1,5 +1,6 @@
 -- The units of a database file with waiting units in their places.
-use Rattle.std.proofs.Common.{◌≡◌, ◌≢◌, ℕ, ◌+◌, ◌-◌, ◌*◌, ◌<◌, ◌≤◌, ◌==◌, Bool, true, false, List, [], ◌∷◌, ◌++◌, length}
+use Rattle.std.proofs.Common.{◌≡◌, ◌≢◌, ℕ, ◌+◌, ◌-◌, ◌*◌, ◌<◌, ◌≤◌, ◌==◌, Bool, true, false, List, [], ◌∷◌, ◌++◌}
+use Rattle.std.proofs.Common.{length}
 use Rattle.std.proofs.Common.{take, drop, None, Some, refl, sym, ap, subst, ◌∙◌, ⊎_elim, arith, append_assoc}
 use Rattle.std.proofs.Common.{length-append, length-take}
 use Rattle.std.specs.Prelude.{All}
@@ -95,12 +96,15 @@ held_apart size unit w file other is = ⊎_elim
     (cases_lt w.unit unit)
   where
     above : (a b : ℕ) → a ≤ b → b ≢ a → a < b
-    above a b le ne = ⊎_elim (λ (less : a < b). less) (λ (ge : b ≤ a). absurd (ne (omega (arith, le, ge)))) (cases_lt a b)
+    above a b le ne = ⊎_elim (λ (less : a < b). less) (λ (ge : b ≤ a). absurd (ne (omega (arith, le, ge))))
+        (cases_lt a b)
 
-inside_placed : (size : ℕ) (w : WaitingUnit) (units : List WaitingUnit) (file : List ℕ) → LiesWithin size (length file) w
+inside_placed : (size : ℕ) (w : WaitingUnit) (units : List WaitingUnit) (file : List ℕ)
+    → LiesWithin size (length file) w
     → All (LiesWithin size (length file)) units → All (LiesWithin size (length (placed size w file))) units
 inside_placed size w units file is inside =
-    subst (λ n. All (LiesWithin size n) units) (sym (length-written_within (place_of size w.unit) w.bytes file is.within))
+    subst (λ n. All (LiesWithin size n) units) (sym
+        (length-written_within (place_of size w.unit) w.bytes file is.within))
     inside
 
 -- So it is with units of which it is none.
@@ -120,7 +124,8 @@ pub held_waiting : (size unit : ℕ) (units : List WaitingUnit) (file bytes : Li
     → held_by size unit (patched size units file) ≡ bytes
 held_waiting size unit [] file bytes rising inside found = absurd (let no : None ≡ Some bytes = found in cc)
 held_waiting size unit (x ∷ units) file bytes rising inside found =
-    by (x.unit == unit) refl (held_waiting size unit units (placed size x file) bytes (rising_others x units rising) rest)
+    by (x.unit == unit) refl (held_waiting size unit units (placed size x file) bytes
+        (rising_others x units rising) rest)
   where
     is : LiesWithin size (length file) x
     is = All-head (LiesWithin size (length file)) x units inside
@@ -179,7 +184,8 @@ unfolding u32_at
 block_length-is file = four_bytes (drop 8 file)
 
 -- A unit of an image is what the file that begins with it has in the unit's place.
-module _ (h : Header) (file image : List ℕ) (unit n : ℕ) (fields : fields_of image ≡ h) (is_image : database_of file ≡ image)
+module _ (h : Header) (file image : List ℕ) (unit n : ℕ) (fields : fields_of image ≡ h)
+    (is_image : database_of file ≡ image)
     (is_unit : IsUnit image unit n) where
   size_is : block_length image ≡ h.block_size
   size_is = block_length-is image ∙ ap (λ (x : Header). x.block_size) fields

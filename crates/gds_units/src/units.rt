@@ -25,7 +25,8 @@ use std::marker::Model;
 ///
 /// Clauses see a `Units` as its host, the database file with all changes in it where the host tells it, the header, how
 /// many bytes the last epoch's database has and how many the file has for sure, the number of units that changed since
-/// the last epoch, and whether a write has failed. The image, which is the database with all changes, is what the file begins with, as long as its header says.
+/// the last epoch, and whether a write has failed. The image, which is the database with all changes, is what the file
+/// begins with, as long as its header says.
 #[derive(Drop)]
 pub struct Units<H: Host> {
     host: H,

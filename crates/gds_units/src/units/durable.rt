@@ -1,4 +1,5 @@
-ghost use Rattle.std.specs.Prelude.{◌≡◌, ◌*◌, ◌+◌, ◌-◌, ◌^◌, ◌<◌, ◌≤◌, false, None, length, replicate, take, OnErr, OnOk};
+ghost use Rattle.std.specs.Prelude.{◌≡◌, ◌*◌, ◌+◌, ◌-◌, ◌^◌, ◌<◌, ◌≤◌, false, None, length, replicate, take, OnErr};
+ghost use Rattle.std.specs.Prelude.{OnOk};
 ghost use Rattle.std.specs.Option.{ForSome};
 ghost use Rattle.host_model.specs.Disk.{written};
 ghost use Rattle.host_model.specs.Failures.{NeverFell, Rose};
@@ -17,7 +18,8 @@ use gds_header::{HEADER_LENGTH, Header};
 use host_model::Host;
 
 impl<H: Host> Units<H> {
-    /// Makes the image durable: after Ok each crash leaves files of which the next opening finds it. It takes no memory.
+    /// Makes the image durable: after Ok each crash leaves files of which the next opening finds it. It takes no
+    /// memory.
     ///
     /// A crash on the way leaves what was found before, or the image.
     pub fn epoch(&mut self) -> Result<(), UnitError>
@@ -66,7 +68,8 @@ impl<H: Host> Units<H> {
         ensures header { self.new.header ≡ self.old.header }
         ensures changed { self.new.changed ≤ self.old.changed }
         ensures image { image_of self.new ≡ image_of self.old }
-        ensures file { OnOk result (TellsOn self.old.file self.new.file (λ old new. let from = file_length_of self.old.header in
+        ensures file { OnOk result (TellsOn self.old.file self.new.file (λ old new.
+            let from = file_length_of self.old.header in
             new ≡ written from (replicate (place_of self.old.header total - from) 0) old)) }
         ensures extent { OnOk result (self.new.extent ≡ place_of self.old.header total) }
         ensures kept { OnOk result (WhereTold H.told self.old
@@ -92,7 +95,8 @@ impl<H: Host> Units<H> {
         ensures header { self.new.header ≡ self.old.header }
         ensures changed { self.new.changed ≡ self.old.changed }
         ensures image { image_of self.new ≡ image_of self.old }
-        ensures file { OnOk result (TellsOn self.old.file self.new.file (λ old new. let from = file_length_of self.old.header in
+        ensures file { OnOk result (TellsOn self.old.file self.new.file (λ old new.
+            let from = file_length_of self.old.header in
             new ≡ written from (replicate (place_of self.old.header total - from) 0) old)) }
         ensures extent { OnOk result (self.new.extent ≡ place_of self.old.header total) }
         ensures any_moment { WhereTold H.told self.old

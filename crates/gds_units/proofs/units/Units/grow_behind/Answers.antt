@@ -37,7 +37,8 @@ invariant_of-self g c =
     (subst (λ (s : UnitsState g.row.H.Denot). s.header.total ≤ c.args.total) (sym c.self.view_is)
     (omega (arith, c.requires.more)))) in
     after_front u.host c.grow_file.new.host u.header u.waiting.units u.before u.epoch_length
-    u.extent u.is_stopped c.self.invariant c.if-self.false n is_n within e.untold e.told e.any_moment to u.is_stopped more
+    u.extent u.is_stopped c.self.invariant c.if-self.false n is_n within e.untold e.told e.any_moment to u.is_stopped
+        more
     c.length_with-to.ensures.short
     (λ x y old new kept. grown_reach n to x y
     (omega (arith, is_n, c.self.invariant.places.now, (c.self.invariant.held x old).long))
@@ -55,7 +56,8 @@ invariant_of-self-in-Err g c =
     omega (arith, subst (λ (s : UnitsState g.row.H.Denot). s.epoch ≤ file_length_of s.header) (sym c.self.view_is)
     c.requires.epoch, is_n) in
     after_front u.host c.grow_file.new.host u.header u.waiting.units u.before u.epoch_length
-    u.extent u.is_stopped c.self.invariant c.if-self.false n is_n within e.untold e.told e.any_moment n true (omega arith)
+    u.extent u.is_stopped c.self.invariant c.if-self.false n is_n within e.untold e.told e.any_moment n true
+        (omega arith)
     (omega (arith, c.self.invariant.places.now, c.self.invariant.places.short, is_n))
     (λ x y old new kept. front_reach u.host c.grow_file.new.host u.header u.waiting.units u.before u.epoch_length
     u.extent u.is_stopped c.self.invariant c.if-self.false n is_n within e.untold e.told x y old kept)
