@@ -123,7 +123,13 @@ fn a_pointer_before_the_star(rt: HostRuntime) -> Result<(), Fail> {
             (0, b"A\0\0\0"),
         ],
     )?;
-    check_insert(&rt, &mut pointers()?, b"A\0\xBF\x21\0\0", b"\x05\0\0\0", &wanted)
+    check_insert(
+        &rt,
+        &mut pointers()?,
+        b"A\0\xBF\x21\0\0",
+        b"\x05\0\0\0",
+        &wanted,
+    )
 }
 
 #[test]
@@ -225,7 +231,10 @@ fn a_place_of_another_block(rt: HostRuntime) -> Result<(), Fail> {
         shared: 0,
         next_shared: 3,
     };
-    assert_eq!(rt; insert(&mut bytes, &place, b"B\0\0", b""), Err(EditError::Misplaced));
+    assert_eq!(rt;
+        insert(&mut bytes, &place, b"B\0\0", b""),
+        Err(EditError::Misplaced)
+    );
     assert_eq!(rt; replace(&mut bytes, &place, b""), Err(EditError::Misplaced));
     assert_eq!(rt; remove(&mut bytes, &place), Err(Misplaced));
     assert_eq!(rt; bytes, nested()?);
