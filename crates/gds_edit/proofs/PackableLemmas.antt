@@ -1,5 +1,6 @@
 -- A block may have what an edit gives it.
-use Rattle.std.proofs.Common.{ℕ, zero, suc, ◌≡◌, ◌⊎◌, inl, inr, List, [], ◌∷◌, ◌++◌, length, false, refl, ap, subst, arith}
+use Rattle.std.proofs.Common.{ℕ, zero, suc, ◌≡◌, ◌⊎◌, inl, inr, List, [], ◌∷◌, ◌++◌, length, false, refl}
+use Rattle.std.proofs.Common.{ap, subst, arith}
 use Rattle.std.specs.Prelude.{All}
 use Rattle.std.specs.Bool.{OnFalse}
 use Rattle.std.specs.Ordering.{nat_cmp}

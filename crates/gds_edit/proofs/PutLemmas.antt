@@ -29,7 +29,8 @@ module _ (old piece : List ℕ) (at : ℕ) (fits : at + length piece ≤ length 
   pub take-with_bytes_below : (n : ℕ) → n ≤ at → take n (with_bytes old at piece) ≡ take n old
   take-with_bytes_below n h =
       sym (take-take n at (with_bytes old at piece) h)
-      ∙ ap (take n) (take_at (take at old) (piece ++ drop (at + length piece) old) at (omega (arith, length-take at old)))
+      ∙ ap (take n) (take_at (take at old) (piece ++ drop (at + length piece) old) at
+      (omega (arith, length-take at old)))
       ∙ take-take n at old h
 
   -- One piece behind another is one piece.

@@ -16,7 +16,8 @@ pub record IsEdited (old new : List ℕ) (height : ℕ) (es : List Item) : Type 
   pub tn : tn_of new ≡ tn_of old
 
 -- What an edit that gives a block these entries answers: either it was made, or they don't fit.
-pub record IsEdit {T : Type 0} (old new : List ℕ) (height : ℕ) (es : List Item) (answer : Result T EditError) : Type 0 where
+pub record IsEdit {T : Type 0} (old new : List ℕ) (height : ℕ) (es : List Item) (answer : Result T EditError)
+    : Type 0 where
   pub done : OnOk answer (IsEdited old new height es)
   pub full : IfErr answer (λ e. (e ≡ NoRoom) × (length old < packed_size es))
 

@@ -1,9 +1,10 @@
-ghost use Rattle.std.specs.Prelude.{◌≡◌, ◌≤◌, ◌<◌, ◌+◌, ◌-◌, ◌^◌, ◌++◌, ◌∷◌, [], ℕ, List, length, drop, OnErr, IfSome, IfNone};
+ghost use Rattle.std.specs.Prelude.{◌≡◌, ◌≤◌, ◌<◌, ◌+◌, ◌^◌, ◌++◌, ◌∷◌, [], ℕ, List, length, drop};
+ghost use Rattle.std.specs.Prelude.{OnErr, IfSome, IfNone};
 ghost use Rattle.gds_block.specs.Block.{used_of};
 ghost use Rattle.gds_block.specs.Item.{Item};
 ghost use Rattle.m_key.specs.KeyEnd.{shared};
 ghost use Rattle.gds_pack.specs.Packable.{ArePackable};
-ghost use Rattle.gds_pack.specs.Packed.{packed_size, record_size, key_behind};
+ghost use Rattle.gds_pack.specs.Packed.{packed_size, key_behind};
 ghost use Rattle.gds_search.specs.PackedBlock.{IsPackedBlock};
 ghost use Rattle.gds_search.specs.Place.{IsPlaceFor};
 ghost use Rattle.gds_edit.specs.Edited.{IsEdit};
@@ -78,7 +79,7 @@ fn insert_last(block: &mut [u8], used: usize, fresh: NewRecord<'_>) -> Result<()
     Ok(())
 }
 
-// Puts a record before one of which the key shares so many more bytes with the new key than with the key before both.
+// Puts a record before another, whose key shares so many more bytes with the new key than with the key before both.
 fn insert_before(
     block: &mut [u8],
     used: usize,

@@ -23,6 +23,7 @@ pub(crate) fn used_count(block: &[u8]) -> Option<usize>
     Some(used)
 }
 
+// The level of a block.
 pub(crate) fn level(block: &[u8]) -> u8
     requires { 16 ≤ length block.now }
     ensures { result ≡ level_of block.now }

@@ -27,6 +27,7 @@ impl RecordHead {
         }
     }
 
+    // Puts it at an offset.
     pub(crate) fn put(self, out: &mut [u8], at: usize)
         requires fits { at + 4 ≤ length out.old }
         requires size { self.size < 2 ^ 16 }
@@ -57,6 +58,7 @@ impl<'a> NewRecord<'a> {
             .saturating_add(self.rest.len())
     }
 
+    // Puts it at an offset.
     pub(crate) fn put(self, out: &mut [u8], at: usize)
         requires fits { at + (4 + length self.key.now + length self.rest.now) ≤ length out.old }
         requires short { length out.old ≤ 65024 }

@@ -41,8 +41,9 @@ returns-in_err-push_tail-clause-replaced c =
     let full = c.in_err-push_tail.ensures.full in
     IsEdit-refused c.args.block.now _ height _ c.from_residual.result p.0 p.1 (p.2 ∙ full.0)
     (too_long c.args.block.now height key es a b e c.args.rest.now c.args.place.now packed spot keyed packable
-    c.level.result c.in-Some-record_head.head.size c.in-Some-record_head.head.count c.in-Some-key_part.key c.in-Some.used
-    c.saturating_add-end.result c.level.ensures (ap (λ h. h.size) head) (ap (λ h. h.count) head) c.in-Some.ensures.1
+    c.level.result c.in-Some-record_head.head.size c.in-Some-record_head.head.count c.in-Some-key_part.key
+    c.in-Some.used c.saturating_add-end.result c.level.ensures (ap (λ h. h.size) head) (ap (λ h. h.count) head)
+    c.in-Some.ensures.1
     c.in-Some-key_part.ensures.some.1 c.in-Some-key_part.ensures.some.2 c.saturating_add-end.ensures full.1)
 
 pub returns-clause-replaced : goal.returns-clause-replaced
@@ -52,9 +53,11 @@ returns-clause-replaced c =
     record {
       done =
           replaced c.args.block.now height key es a b e c.args.rest.now c.args.place.now packed spot keyed packable
-          c.level.result c.in-Some-record_head.head.size c.in-Some-record_head.head.count c.in-Some-key_part.key c.in-Some.used
-          c.saturating_add-end.result c.level.ensures (ap (λ h. h.size) head) (ap (λ h. h.count) head) c.in-Some.ensures.1
-          c.in-Some-key_part.ensures.some.1 c.in-Some-key_part.ensures.some.2 c.saturating_add-end.ensures c.push_tail.new.block c.put_bytes.new.out
+          c.level.result c.in-Some-record_head.head.size c.in-Some-record_head.head.count c.in-Some-key_part.key
+          c.in-Some.used c.saturating_add-end.result c.level.ensures (ap (λ h. h.size) head)
+          (ap (λ h. h.count) head) c.in-Some.ensures.1
+          c.in-Some-key_part.ensures.some.1 c.in-Some-key_part.ensures.some.2 c.saturating_add-end.ensures
+          c.push_tail.new.block c.put_bytes.new.out
           c.in_ok-push_tail.ensures.moved
           (c.put_bytes.ensures
           ∙ ap (λ xs. with_bytes xs (c.args.place.now.offset + 4 + c.in-Some-key_part.key) c.args.rest.now)
