@@ -6,4 +6,6 @@ mod chains;
 #[cfg(test)]
 mod newborn;
 #[cfg(test)]
+mod opened;
+#[cfg(test)]
 mod recovery;
