@@ -6,3 +6,4 @@ pub mod ValueLemmas
 pub mod FreeLemmas
 pub mod HeaderLemmas
 pub mod TakingLemmas
+pub mod SplitLemmas

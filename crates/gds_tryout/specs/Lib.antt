@@ -2,3 +2,4 @@ pub mod File
 pub mod Global
 pub mod Entries
 pub mod Outcome
+pub mod Split

@@ -5,9 +5,11 @@
 
 mod blocks;
 mod entries;
+mod splitting;
 mod taking;
 mod values;
 
 pub use blocks::{block, block_tn, put_block, read_entries};
+pub use splitting::split_leaf;
 pub use taking::take_block;
 pub use values::{Outcome, replace_value};
