@@ -1,9 +1,9 @@
 mod SearchLemmas
 mod LengthLemmas
-mod ToldLemmas
+pub mod ToldLemmas
 mod ComeLemmas
 mod BackLemmas
-mod UnitLemmas
+pub mod UnitLemmas
 mod StepLemmas
 pub mod PatchLemmas
 mod EpochLemmas

@@ -240,23 +240,21 @@ rising-with_unit (x ∷ units) new rising =
         (All-cons (λ (w : WaitingUnit). new.unit < w.unit) x units less (below_less new.unit x.unit units less above))
         rising
 
-inside-with_unit : (size n : ℕ) (units : List WaitingUnit) (new : WaitingUnit) → LiesWithin size n new
-    → All (LiesWithin size n) units → All (LiesWithin size n) (with_unit units new)
-inside-with_unit size n [] new is inside = All-cons (LiesWithin size n) new [] is inside
-inside-with_unit size n (x ∷ units) new is inside =
-    by_order (nat_lt x.unit new.unit) (x.unit == new.unit) (inside-with_unit size n units new is others)
+-- What holds of a unit and of those that wait holds of all with it among them.
+pub All-with_unit : (P : WaitingUnit → Type 0) (units : List WaitingUnit) (new : WaitingUnit) → P new → All P units
+    → All P (with_unit units new)
+All-with_unit P [] new is all = All-cons P new [] is all
+All-with_unit P (x ∷ units) new is all =
+    by_order (nat_lt x.unit new.unit) (x.unit == new.unit) (All-with_unit P units new is others)
   where
-    P : WaitingUnit → Type 0
-    P = LiesWithin size n
-
     others : All P units
-    others = All-tail P x units inside
+    others = All-tail P x units all
 
     by_order : (less equal : Bool) → All P (with_unit units new)
         → All P (if less then x ∷ with_unit units new else (new ∷ (if equal then units else x ∷ units)))
-    by_order true equal further = All-cons P x (with_unit units new) (All-head P x units inside) further
+    by_order true equal further = All-cons P x (with_unit units new) (All-head P x units all) further
     by_order false true further = All-cons P new units is others
-    by_order false false further = All-cons P new (x ∷ units) is inside
+    by_order false false further = All-cons P new (x ∷ units) is all
 
 -- So a whole plan that is put is written over the file with the units that waited.
 pub patched-with_plan : (size : ℕ) (units plan : List WaitingUnit) (file : List ℕ)
@@ -267,5 +265,5 @@ patched-with_plan size units (new ∷ plan) file fits inside rising =
     let P : WaitingUnit → Type 0 = LiesWithin size (length file) in
     let is = All-head P new plan fits in
     patched-with_plan size (with_unit units new) plan file (All-tail P new plan fits)
-    (inside-with_unit size (length file) units new is inside) (rising-with_unit units new rising)
+    (All-with_unit P units new is inside) (rising-with_unit units new rising)
     ∙ ap (patched size plan) (patched-with_unit size units new file is inside rising)

@@ -5,12 +5,12 @@ use Rattle.std.proofs.Common.{refl, sym, subst, ap, ◌∙◌, inl, inr, ⊎_eli
 use Rattle.std.specs.Prelude.{All, Any}
 use Rattle.std.proofs.lemmas.Bool.{cases_lt}
 use Rattle.std.proofs.lemmas.List.{ext_get_or, get_or-map, length-map, map_more, take-map}
-use Rattle.std.proofs.lemmas.List.Elements.{All-head, All-tail, All-take}
+use Rattle.std.proofs.lemmas.List.Elements.{All-append, All-cons, All-head, All-nil, All-tail, All-take}
 use Rattle.host_model.specs.declared.host.FileNo.TheVariants.{Db}
 use Rattle.host_model.specs.Disk.{Changes, Torn, written}
 use Rattle.host_model.specs.Files.{Contents, with_file}
 use Rattle.gds_images.proofs.WrittenLemmas.{length-written_within, written_before, written_behind, written_within}
-use Rattle.gds_epoch.specs.Waiting.{IsUnder, LiesWithin, TornUnits, WaitingUnit, patched, place_of}
+use Rattle.gds_epoch.specs.Waiting.{HasBytes, IsUnder, LiesWithin, TornUnits, WaitingUnit, patched, place_of}
 use Rattle.gds_epoch.specs.WaitingView.{unit_of, units_of}
 use Rattle.gds_epoch.specs.declared.waiting.UnitBytes.{UnitBytes}
 
@@ -182,3 +182,15 @@ module _ (size : ℕ) (items : List UnitBytes) (k : ℕ) (unit : UnitBytes) (wit
       (get_or-map unit_of items k unit (unit_of unit) within ∙ ap unit_of (sym is))
       (inside k (unit_of unit) (omega (arith, within, length-map items unit_of))) in
       omega (arith, this.within, place, long)
+
+-- One unit more has bytes.
+pub more_bytes : (items : List UnitBytes) (k : ℕ) (unit : UnitBytes) → k < length items → unit ≡ get_or items k unit
+    → (bytes : List ℕ) → bytes ≡ unit.bytes.items → All (λ b. b < 256) bytes → All HasBytes (units_of (take k items))
+    → All HasBytes (units_of (take (k + 1) items))
+more_bytes items k unit within is bytes bytes_are this so_far =
+    let before : List WaitingUnit = units_of (take k items) in
+    let next : units_of (take (k + 1) items) ≡ before ++ unit_of unit ∷ [] =
+    map_more unit_of items k unit within ∙ ap (λ u. before ++ unit_of u ∷ []) (sym is) in
+    let one : HasBytes (unit_of unit) = subst (All (λ b. b < 256)) bytes_are this in
+    subst (All HasBytes) (sym next)
+    (All-append HasBytes before (unit_of unit ∷ []) so_far (All-cons HasBytes (unit_of unit) [] one (All-nil HasBytes)))

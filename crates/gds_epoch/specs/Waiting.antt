@@ -8,6 +8,10 @@ pub record WaitingUnit : Type 0 where
   pub unit : ℕ
   pub bytes : List ℕ
 
+-- What the unit is to have are bytes.
+abbrev pub HasBytes : WaitingUnit → Type 0
+HasBytes waiting = All (λ b. b < 256) waiting.bytes
+
 -- the units that wait, and how many more there is room for
 pub record WaitingUnits : Type 0 where
   pub units : List WaitingUnit

@@ -1,6 +1,6 @@
-ghost use Rattle.std.specs.Prelude.{◌≡◌, ◌+◌, ◌<◌, ◌≤◌, ◌==◌, [], filter, length, nat_le, IfErr, IfOk, OnOk, vec_len};
+ghost use Rattle.std.specs.Prelude.{◌≡◌, ◌+◌, ◌<◌, ◌≤◌, ◌==◌, [], All, filter, length, nat_le, IfErr, IfOk, OnOk, vec_len};
 ghost use Rattle.std.specs.Option.{option_copied};
-ghost use Rattle.gds_epoch.specs.Waiting.{IsRising, waiting_bytes, with_plan, with_unit};
+ghost use Rattle.gds_epoch.specs.Waiting.{HasBytes, IsRising, waiting_bytes, with_plan, with_unit};
 ghost use Rattle.std.specs.List.{insert};
 ghost use Rattle.std.specs.Vec.{vec_capacity};
 ghost use Rattle.gds_epoch.specs.WaitingView.{IsAt, IsGapFor, room_of, units_of};
@@ -108,6 +108,7 @@ impl Waiting {
     /// Lets the units above this number go, as where a file ends with it. Their places stay reserved.
     pub fn drop_above(&mut self, last: u32)
         ensures dropped { self.new.units ≡ filter (λ waiting. nat_le waiting.unit last) self.old.units }
+        ensures rising { IsRising self.new.units }
         ensures room { self.old.room ≤ self.new.room }
     {
         let kept = self.units.partition_point(|waiting| waiting.unit <= last);
@@ -130,6 +131,13 @@ impl Waiting {
         self.units.as_slice()
     }
 
+    /// Does nothing: what the units are to have are bytes.
+    pub fn hold_bytes(&self)
+        ensures { All HasBytes self.now.units }
+    {
+        have_bytes(self.units.as_slice());
+    }
+
     /// Where the unit is, or where it would go.
     fn search(&self, unit: u32) -> Result<usize, usize>
         ensures found { IfOk result (IsAt self.now.units unit) }
@@ -150,3 +158,17 @@ fn insert_reserved(units: &mut Vec<UnitBytes>, at: usize, new: UnitBytes)
     let inserted = units.insert(at, new);
     prove!(inserted.is_ok());
 }
+
+/// Does nothing: what the units are to have are bytes.
+fn have_bytes(units: &[UnitBytes])
+    ensures { All HasBytes (units_of units.now) }
+{
+    for unit in units {
+        are_bytes(&unit.bytes);
+    }
+}
+
+/// Does nothing: each item of a slice of bytes is below 256.
+fn are_bytes(bytes: &[u8])
+    ensures { All (λ b. b < 256) bytes.now }
+{}

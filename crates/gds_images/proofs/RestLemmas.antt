@@ -34,7 +34,7 @@ module _ (image : List ℕ) (whole : IsWhole image) where
   front_is_header : length (take 8192 image) ≡ 8192
   front_is_header = omega (arith, length-take 8192 image, header_fits)
 
-  front_readable : unreadable (take 8192 image) ≡ None
+  pub front_readable : unreadable (take 8192 image) ≡ None
   front_readable = none_of (unreadable (take 8192 image)) (λ kind e.
       let bad = ending_kind-unreadable image (take 8192 image) refl front_is_header kind e in
       let both = sym bad ∙ whole.readable in let no : ⊥ = cc in no)

@@ -4,4 +4,8 @@
 #[cfg(test)]
 mod chains;
 #[cfg(test)]
+mod newborn;
+#[cfg(test)]
+mod opened;
+#[cfg(test)]
 mod recovery;

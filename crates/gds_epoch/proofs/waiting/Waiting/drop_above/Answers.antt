@@ -20,3 +20,8 @@ returns-clause-dropped c =
     units_dropped items c.args.self.now.units (ap (λ (w : WaitingUnits). w.units) c.self.view_is)
     c.self.invariant c.args.last c.partition_point-kept.result c.truncate.new.self.items c.truncate.ensures.items
     (rw c.deref.ensures.value at point)
+
+pub returns-clause-rising : goal.returns-clause-rising
+returns-clause-rising c =
+    rising_dropped c.self.inside.units.items c.args.self.now.units (ap (λ (w : WaitingUnits). w.units) c.self.view_is)
+    c.self.invariant c.args.last c.partition_point-kept.result c.truncate.new.self.items c.truncate.ensures.items

@@ -1,0 +1,4 @@
+pub mod BlockLemmas
+pub mod MakingLemmas
+pub mod StageLemmas
+pub mod StateLemmas

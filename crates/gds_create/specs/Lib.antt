@@ -1,0 +1,4 @@
+pub mod Blocks
+pub mod Newborn
+pub mod Making
+pub mod Errors

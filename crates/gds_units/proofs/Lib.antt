@@ -1,0 +1,14 @@
+mod OpeningLemmas
+mod PatchedLemmas
+mod HeldLemmas
+mod DurableLemmas
+mod SayingLemmas
+mod UnitLemmas
+mod ReadingLemmas
+mod SourcingLemmas
+mod KeepingLemmas
+mod DropLemmas
+mod PlanLemmas
+mod CarriedLemmas
+mod CreatingLemmas
+mod ExampleLemmas
