@@ -9,10 +9,9 @@ use Rattle.std.proofs.lemmas.List.{drop-take, take-append-le, take-take}
 use Rattle.std.proofs.lemmas.List.Elements.{All-cons, All-head, All-nil, All-tail}
 use Rattle.std.proofs.Math.Nat.{mul-le-mul_right}
 use Rattle.std.proofs.Math.Seq.{drop-append_seam, take-append_seam}
-use Rattle.std.specs.Int.{w32, from_le_bytes}
 use Rattle.host_model.specs.Disk.{written}
 use Rattle.host_model.specs.Units.{IsUnit, block_length, unit_bytes, unit_length, unit_place}
-use Rattle.gds_block.specs.Fields.{u32_at}
+use Rattle.gds_law.proofs.UnitLemmas.{block_length-is}
 use Rattle.gds_header.specs.Fields.{fields_of, file_length_of, image_length}
 use Rattle.gds_header.specs.declared.header.Header.{Header}
 use Rattle.gds_images.proofs.WrittenLemmas.{length-written_within}
@@ -170,18 +169,6 @@ pub held_other : (size unit : ℕ) (units : List WaitingUnit) (file : List ℕ)
 held_other size unit units file inside none = held_by_file size unit units file (none_is unit units none) inside
 
 -- ---- The units of an image.
-
--- The number in four bytes is read from no more than these.
-four_bytes : (bytes : List ℕ) → from_le_bytes w32 (take 4 bytes) ≡ from_le_bytes w32 bytes
-four_bytes [] = refl
-four_bytes (a ∷ []) = refl
-four_bytes (a ∷ b ∷ []) = refl
-four_bytes (a ∷ b ∷ c ∷ []) = refl
-four_bytes (a ∷ b ∷ c ∷ d ∷ bytes) = refl
-
-block_length-is : (file : List ℕ) → block_length file ≡ (fields_of file).block_size
-unfolding u32_at
-block_length-is file = four_bytes (drop 8 file)
 
 -- A unit of an image is what the file that begins with it has in the unit's place.
 module _ (h : Header) (file image : List ℕ) (unit n : ℕ) (fields : fields_of image ≡ h)
