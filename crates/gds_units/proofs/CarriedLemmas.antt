@@ -236,7 +236,7 @@ module _ (h : Header) (extent : ℕ) (plan units : List WaitingUnit) (is : IsPla
         → IsCarriedOut h plan (patched h.block_size units db) (patched (header_after h plan).block_size carried db)
     is_carried_out some fields =
         subst (λ size. IsCarriedOut h plan (patched h.block_size units db) (patched size carried db))
-            (sym is.block_size)
+        (sym is.block_size)
         (record {
           len = ap length file_carried ∙ length-patched h.block_size plan (patched h.block_size left db) plan_in_base
               ∙ base_long ∙ sym old_long;
@@ -305,7 +305,7 @@ module _ {H : Type 0} {told : H → Option Contents} {moment : H → ℕ} {left_
   module _ (plan : List WaitingUnit) (is : IsPlan h extent plan) (next : Header)
       (reserved dropped now : List WaitingUnit) (is_next : next ≡ header_after h plan) (unchanged : reserved ≡ units)
       (drops : dropped ≡ up_to next.total reserved) (rising : IsRising dropped)
-          (puts : now ≡ with_plan dropped plan) where
+      (puts : now ≡ with_plan dropped plan) where
     rising_left : IsRising (up_to (header_after h plan).total units)
     rising_left = subst IsRising (dropped_is h next plan units reserved dropped now is_next unchanged drops puts) rising
 

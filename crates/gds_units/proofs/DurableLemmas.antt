@@ -61,7 +61,7 @@ module _ {H : Type 0} (moment : H → ℕ) (left_since : H → ℕ → Contents 
   pub keeps_none : (host : H) → EachLeft moment left_since host IsRecoverable → Keeps moment left_since host host
   keeps_none host each =
       no_call moment left_since host (AsBefore moment left_since host)
-          (λ c left. found_before host c (each c left) left)
+      (λ c left. found_before host c (each c left) left)
 
   -- so it is where crashes find no difference
   pub keeps_same : (old new : H) → LeavesTheSame moment left_since old new

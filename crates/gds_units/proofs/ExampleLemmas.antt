@@ -150,9 +150,13 @@ module _ {H : Type 0} (told : H → Option Contents) (moment : H → ℕ) (left_
     way_said mid new first stored saying_it =
         then_more moment left_since old mid new OnTheWay first
         (weaker moment left_since mid new (during (SaysSome bytes) (AsBefore moment left_since mid)) OnTheWay
-        (λ c is. inr (inr (is.0, stores_then moment left_since longer next before.said
-            (left_since mid (moment mid)) is.0
-        stored is.1, is.2))) saying_it)
+        (λ c is. inr (inr (
+          is.0,
+          stores_then moment left_since longer next before.said
+              (left_since mid (moment mid)) is.0
+              stored is.1,
+          is.2,
+        ))) saying_it)
 
     pub stored_said : (mid new : H) → IsStored moment left_since next before.said mid
         → KeepsSaying moment left_since bytes mid new

@@ -101,8 +101,13 @@ image_kept size units (Some c) (Some d) untold tells = ap Some tells
 
 pub grown_reach : (from to : ℕ) (c d : Contents) → from ≤ length c.db → d ≡ with_zeros from to c → to ≤ length d.db
 grown_reach from to c d fits is =
-    omega (arith, ap (λ (x : Contents). length x.db) is, length-written from (replicate (to - from) 0) c.db,
-    length-replicate {A = ℕ} (to - from) 0, fits)
+    omega (
+      arith,
+      ap (λ (x : Contents). length x.db) is,
+      length-written from (replicate (to - from) 0) c.db,
+      length-replicate {A = ℕ} (to - from) 0,
+      fits,
+    )
 
 -- They stand behind the units too.
 pub grown_file : (h : Header) (units : List WaitingUnit) (from to total : ℕ) (old new : Option Contents)
@@ -281,10 +286,14 @@ module _ {H : Type 0} {told : H → Option Contents} {moment : H → ℕ} {left_
             let held = are.held past.0 past.1 in
             let same : patched h.block_size none d.db ≡ patched h.block_size units past.0.db = bare d.db ∙ past.2.db in
             record {
-              long = omega (arith, held.long, ap length past.2.db,
-                  length-patched h.block_size units past.0.db
-                  (inside_more h.block_size (file_length_of h) (length past.0.db) units
-                  (omega (arith, places.now, held.long)) places.inside));
+              long = omega (
+                arith,
+                held.long,
+                ap length past.2.db,
+                length-patched h.block_size units past.0.db
+                    (inside_more h.block_size (file_length_of h) (length past.0.db) units
+                    (omega (arith, places.now, held.long)) places.inside),
+              );
               whole = subst (λ file. IsWhole (database_of file)) (sym same) held.whole;
               fields = ap fields_of same ∙ held.fields;
             };
@@ -297,7 +306,7 @@ module _ {H : Type 0} {told : H → Option Contents} {moment : H → ℕ} {left_
             let held = are.held past.0 past.1 in
             let same : take n d.db ≡ database_of (patched h.block_size units past.0.db) =
             ap (λ k. take k d.db) (is_n ∙ sym (ap file_length_of held.fields))
-                ∙ ap (take (image_length (patched h.block_size units past.0.db))) past.2.db in
+            ∙ ap (take (image_length (patched h.block_size units past.0.db))) past.2.db in
             record {
               each = λ x left.
                   let at_rest = rests past.0 past.1 x left in record {
@@ -360,7 +369,6 @@ module _ {H : Type 0} {told : H → Option Contents} {moment : H → ℕ} {left_
       (image_is h.block_size units (told old) c image tells is)
       (keeps_either moment left_since old c (now_left old c tells) (take epoch c.db) (are.resting going c tells).each
       (database_of (patched h.block_size units c.db)) new (come c tells))
-
 
 module _ {H : Type 0} (told : H → Option Contents) (moment : H → ℕ) (left_since : H → ℕ → Contents → Type 0) where
   -- And once it has ended the image alone.

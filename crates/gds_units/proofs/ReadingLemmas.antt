@@ -72,7 +72,7 @@ waiting_length size n unit (x ∷ units) bytes inside found =
 
 module _ (h : Header) (units : List WaitingUnit) (epoch extent : ℕ) (images : List Image)
     (places : AreInPlace h epoch extent images units) (told : Option Contents)
-        (held : ForSome told (IsHeld h extent units))
+    (held : ForSome told (IsHeld h extent units))
     (unit n : ℕ)
     (asked : ForSome (option_map database_of (file_with h.block_size units told)) (λ image. IsUnit image unit n)) where
   fields_at : (c : Contents) → (tells : told ≡ Some c) → option_map database_of (file_with h.block_size units told)
@@ -144,5 +144,5 @@ module _ (h : Header) (units : List WaitingUnit) (epoch extent : ℕ) (images : 
   copy_ends before now bytes (Err e) found err =
       subst (EndsReading told before now) (sym err.1)
       (none_if told (λ c tells. err.0 (waiting_length h.block_size
-          (file_length_of h) unit units bytes places.inside found
+      (file_length_of h) unit units bytes places.inside found
       ∙ sym (asked_length c tells))))

@@ -46,9 +46,13 @@ rising_count from last [] room rising above below = omega (arith, room)
 rising_count from last (x ∷ units) room rising above below =
     let first = All-head (λ (w : WaitingUnit). from ≤ w.unit) x units above in
     let top = All-head (λ (w : WaitingUnit). w.unit ≤ last) x units below in
-    omega (arith, first, rising_count (x.unit + 1) last units (omega (arith, top)) (rising_others x units rising)
-    (λ j d within. omega (arith, rising_first x units rising j d within))
-    (All-tail (λ (w : WaitingUnit). w.unit ≤ last) x units below))
+    omega (
+      arith,
+      first,
+      rising_count (x.unit + 1) last units (omega (arith, top)) (rising_others x units rising)
+          (λ j d within. omega (arith, rising_first x units rising j d within))
+          (All-tail (λ (w : WaitingUnit). w.unit ≤ last) x units below),
+    )
 
 -- ---- What a range of the file holds.
 
@@ -103,7 +107,7 @@ inside_placed : (size : ℕ) (w : WaitingUnit) (units : List WaitingUnit) (file 
     → All (LiesWithin size (length file)) units → All (LiesWithin size (length (placed size w file))) units
 inside_placed size w units file is inside =
     subst (λ n. All (LiesWithin size n) units) (sym
-        (length-written_within (place_of size w.unit) w.bytes file is.within))
+    (length-written_within (place_of size w.unit) w.bytes file is.within))
     inside
 
 -- So it is with units of which it is none.
@@ -124,7 +128,7 @@ pub held_waiting : (size unit : ℕ) (units : List WaitingUnit) (file bytes : Li
 held_waiting size unit [] file bytes rising inside found = absurd (let no : None ≡ Some bytes = found in cc)
 held_waiting size unit (x ∷ units) file bytes rising inside found =
     by (x.unit == unit) refl (held_waiting size unit units (placed size x file) bytes
-        (rising_others x units rising) rest)
+    (rising_others x units rising) rest)
   where
     is : LiesWithin size (length file) x
     is = All-head (LiesWithin size (length file)) x units inside

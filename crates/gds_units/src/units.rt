@@ -52,13 +52,13 @@ impl<H: Host> Model for Units<H> {
     ghost Value = { UnitsState H };
 
     ghost view = { λ units. record {
-        host = units.host;
-        file = file_with units.header.block_size units.waiting.units (H.told units.host);
-        header = units.header;
-        epoch = units.epoch_length;
-        extent = units.extent;
-        changed = length units.waiting.units;
-        stopped = units.is_stopped;
+      host = units.host;
+      file = file_with units.header.block_size units.waiting.units (H.told units.host);
+      header = units.header;
+      epoch = units.epoch_length;
+      extent = units.extent;
+      changed = length units.waiting.units;
+      stopped = units.is_stopped;
     } };
 
     ghost invariant = { λ units. AreUnits H.told H.moment H.left_since units.host units.header units.waiting.units

@@ -24,7 +24,11 @@ impl<H: Host> Units<H> {
     /// A crash on the way leaves what was found before, or the image.
     pub fn epoch(&mut self) -> Result<(), UnitError>
         ensures same { self.new ≡ record self.old {
-            host = self.new.host; epoch = self.new.epoch; changed = self.new.changed; stopped = self.new.stopped } }
+          host = self.new.host;
+          epoch = self.new.epoch;
+          changed = self.new.changed;
+          stopped = self.new.stopped;
+        } }
         ensures ok { OnOk result ((self.new.changed ≡ 0) × (self.new.epoch ≡ file_length_of self.old.header)) }
         ensures err { OnErr result ((self.new.changed ≡ self.old.changed) × (self.new.epoch ≡ self.old.epoch)) }
         ensures stored { OnOk result (WhereTold H.told self.old
@@ -44,7 +48,13 @@ impl<H: Host> Units<H> {
             return Ok(());
         }
         let block_size = self.header.block_size;
-        match write_epoch(&mut self.host, &mut self.before, &self.waiting, block_size, self.epoch_length) {
+        match write_epoch(
+            &mut self.host,
+            &mut self.before,
+            &self.waiting,
+            block_size,
+            self.epoch_length,
+        ) {
             Ok(()) => {
                 self.waiting.clear();
                 self.before.clear();
@@ -128,7 +138,11 @@ impl<H: Host> Units<H> {
     pub fn shorten(&mut self) -> Result<(), UnitError>
         requires { self.old.changed ≡ 0 }
         ensures same { self.new ≡ record self.old {
-            host = self.new.host; file = self.new.file; extent = self.new.extent; stopped = self.new.stopped } }
+          host = self.new.host;
+          file = self.new.file;
+          extent = self.new.extent;
+          stopped = self.new.stopped;
+        } }
         ensures image { image_of self.new ≡ image_of self.old }
         ensures file { OnOk result (self.new.file ≡ image_of self.old) }
         ensures extent { OnOk result (self.new.extent ≡ file_length_of self.old.header) }

@@ -40,7 +40,7 @@ returns-clause-any_moment g c x tells file is =
     let next = image_after old.header plan file in
     let at = TellsOn-some (h.told old.host) (h.told mid.host) (λ a b. b.said ≡ a.said) x tells c.commit.ensures.said in
     or_or h.told h.moment h.left_since g.met.H.Host.longer old.host mid.host c.epoch.new.self.host
-        (database_of file) next
+    (database_of file) next
     x.said (c.commit.ensures.any_moment x tells (database_of file) (ap (option_map database_of) is))
     (subst (λ text. KeepsOrStores h.moment h.left_since next text mid.host c.epoch.new.self.host) at.2
     (c.epoch.ensures.any_moment at.0 at.1 next

@@ -23,7 +23,7 @@ returns-then-is_empty-clause-stored g c =
     (λ c image. IsStored h.moment h.left_since image c.said s.host)) c.self.view_is
     (stored_idle u.host u.header u.waiting.units u.before u.epoch_length u.extent u.is_stopped c.self.invariant
     c.if-self.false (none_waits u.waiting.units (eqb-true (length u.waiting.units) 0
-        (sym c.is_empty.ensures ∙ c.if-is_empty.true))))
+    (sym c.is_empty.ensures ∙ c.if-is_empty.true))))
 
 pub returns-then-is_empty-clause-any_moment : goal.returns-then-is_empty-clause-any_moment
 returns-then-is_empty-clause-any_moment g c =
@@ -61,7 +61,7 @@ returns-in-Ok-clause-stored g c =
     subst (λ (s : UnitsState g.row.H.Denot). WhereTold h.told s
     (λ x image. IsStored h.moment h.left_since image x.said c.write_epoch.new.host)) c.self.view_is
     (epoch_stores h.told h.moment h.left_since u.host c.write_epoch.new.host u.header.block_size u.waiting.units
-        c.in-Ok.ensures.rest)
+    c.in-Ok.ensures.rest)
 
 pub returns-in-Ok-clause-any_moment : goal.returns-in-Ok-clause-any_moment
 returns-in-Ok-clause-any_moment g c =
