@@ -1,11 +1,10 @@
 -- Calls on units one after another, as a caller makes them.
-use Rattle.std.proofs.Common.{◌≡◌, ◌⊎◌, ℕ, ◌≤◌, ◌++◌, List, length, take, Option, None, Some, refl, sym, ap, subst, ◌∙◌}
+use Rattle.std.proofs.Common.{◌≡◌, ◌⊎◌, ℕ, ◌≤◌, ◌++◌, List, take, Option, Some, ap, subst, ◌∙◌}
 use Rattle.std.proofs.Common.{inl, inr}
 use Rattle.std.proofs.Common.{⊎_elim}
-use Rattle.std.specs.Option.{ForSome}
 use Rattle.std.specs.Prelude.{option_map}
 use Rattle.host_model.specs.Disk.{SaysSome, during}
-use Rattle.host_model.specs.Files.{Contents, saying}
+use Rattle.host_model.specs.Files.{Contents}
 use Rattle.host_model.specs.Moments.{EachLeft, LeavesOnly}
 use Rattle.host_model.specs.Told.{TellsOn}
 use Rattle.host_model.proofs.FileLemmas.{SaysSome-refl}
@@ -13,7 +12,6 @@ use Rattle.host_model.proofs.FrameLemmas.{TellsOn-some}
 use Rattle.host_model.proofs.MomentLemmas.{then_more, weaker}
 use Rattle.gds_header.specs.Fields.{file_length_of}
 use Rattle.gds_header.specs.declared.header.Header.{Header}
-use Rattle.gds_images.specs.Outcome.{RecoversTo}
 use Rattle.gds_images.specs.Recovered.{recovered}
 use Rattle.gds_epoch.specs.Epoch.{database_of}
 use Rattle.gds_epoch.specs.Waiting.{WaitingUnit}

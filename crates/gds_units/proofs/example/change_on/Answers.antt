@@ -1,4 +1,3 @@
-use Rattle.std.proofs.Common.{◌≡◌}
 use Rattle.gds_units.proofs.ExampleLemmas.{stays_stored, stored_on}
 use Rattle.gds_units.proofs.example.change_on.Goals as goal
 
