@@ -4,10 +4,14 @@
 #[cfg(test)]
 mod blocks;
 #[cfg(test)]
+mod edits;
+#[cfg(test)]
 mod headers;
 #[cfg(test)]
 mod maps;
 #[cfg(test)]
 mod packs;
+#[cfg(test)]
+mod places;
 #[cfg(test)]
 mod small_file;

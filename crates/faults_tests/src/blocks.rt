@@ -12,7 +12,7 @@ use std::alloc::Global;
 use std::test::Fail;
 
 /// A file of 600 blocks with keys of at most 70 and values of at most 3 bytes, before transaction 5.
-fn header() -> Header
+pub(crate) fn header() -> Header
     ensures limits { IsWithinLimits result }
     ensures size { result.block_size ≡ 512 }
 {
@@ -47,7 +47,7 @@ fn node(digit: u8) -> Key {
     key_from(&[b'A', 0, 0xBF, digit, 0, 0])
 }
 
-fn at(place: Place) -> At {
+pub(crate) fn at(place: Place) -> At {
     let (level, low, high) = match place {
         Place::Names | Place::Leaf => (Some(0), None, None),
         Place::Root => (None, None, None),
@@ -69,7 +69,7 @@ fn at(place: Place) -> At {
 }
 
 /// The block of a row.
-fn block_of(row: &Row) -> Result<[u8; 512], Fail> {
+pub(crate) fn block_of(row: &Row) -> Result<[u8; 512], Fail> {
     let mut bytes: [u8; 512] = block(row.level, 1, row.records)?;
     let (place, byte) = row.change;
     if let Some(changed) = bytes.get_mut(place) {

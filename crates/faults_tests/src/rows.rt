@@ -20,6 +20,14 @@ const STAR: &[Record<'static>] = &[(0, b"\x04\0\0\0")];
 /// `^A="x"`.
 const NODE: &[Record<'static>] = &[(0, b"A\0\0x")];
 
+/// `^A="x"`, `^A(1)="y"`, `^A(2)=""` and `^A("b")="z"`.
+const NODES: &[Record<'static>] = &[
+    (0, b"A\0\0x"),
+    (2, b"\xBF\x11\0\0y"),
+    (3, b"\x21\0\0"),
+    (2, b"\xFFb\0\0z"),
+];
+
 /// `^A(1)` to block 4, and a star to block 5.
 const INDEX: &[Record<'static>] = &[(0, b"A\0\xBF\x11\0\0\x04\0\0\0"), (0, b"\x05\0\0\0")];
 
@@ -61,9 +69,10 @@ macro_rules! rows {
     };
 }
 
-pub(crate) const ROWS: [Row; 41] = rows! {
+pub(crate) const ROWS: [Row; 42] = rows! {
     "a sound root": Root, 1, STAR, NONE => [];
     "a sound leaf": Leaf, 0, NODE, NONE => [];
+    "a sound leaf of four": Leaf, 0, NODES, NONE => [];
     "another version": Root, 1, STAR, (0, 2) => [("GDSVERS", 0)];
     "a reserved byte that isn't 0": Root, 1, STAR, (2, 1) => [("GDSVERS", 0)];
     "a transaction of the next number": Root, 1, STAR, (8, 5) => [("GDSBLKTN", 0)];

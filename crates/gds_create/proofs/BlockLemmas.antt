@@ -22,6 +22,7 @@ use Rattle.gds_header.specs.Kinds.{groups_of}
 use Rattle.gds_header.proofs.WritingLemmas.{zeros-replicate}
 use Rattle.gds_new.specs.NewDatabase.{byte_of_bits, byte_of_states, first_master, first_state, group_starts_free}
 use Rattle.gds_new.specs.NewDatabase.{new_block, new_header, new_leaf, new_map, new_root, pairs_bytes}
+use Rattle.gds_new.proofs.BlockLemmas.{length-pairs_bytes}
 use Rattle.gds_create.specs.Blocks.{new_blocks}
 
 -- one byte more of a list of bytes by their places
@@ -121,11 +122,6 @@ unfolding pairs_bytes
 all_pairs h group i pairs ends len right =
     all_filled (λ i. byte_of_states (λ j. first_state h (512 * group + (4 * i + j)))) 128 i pairs ends len right
 
-length-pairs : (h : Header) (group : ℕ) → length (pairs_bytes h group) ≡ 128
-unfolding pairs_bytes
-length-pairs h group =
-    length-map-range_with_len (λ i. byte_of_states (λ j. first_state h (512 * group + (4 * i + j)))) 0 128
-
 pub header_is : (h : Header) (groups : ℕ) (master : List ℕ) → groups ≡ groups_of h → master ≡ first_master h
     → record h { free = h.total - groups - 2; tn = 1; master = master } ≡ new_header h
 unfolding new_header
@@ -140,7 +136,7 @@ pub map_is : (h : Header) (group : ℕ) (out headed new pairs : List ℕ) → ou
     → new ≡ with_bytes headed 16 pairs → new ≡ new_map h group
 unfolding new_map
 map_is h group out headed new pairs are head is put =
-    put_behind_head 255 144 h.block_size 128 144 out headed new pairs are head (ap length is ∙ length-pairs h group)
+    put_behind_head 255 144 h.block_size 128 144 out headed new pairs are head (ap length is ∙ length-pairs_bytes h group)
     refl put
     ∙ ap (λ xs. head_bytes 255 144 0 ++ xs ++ zeros (h.block_size - 144)) is
 

@@ -37,6 +37,7 @@ pub fn create_files<H: Host>(
 ) -> Result<Header, CreateError>
     requires { IsWithinLimits header.now }
     ensures header { IfOk result (λ made. made ≡ new_header header.now) }
+    ensures limits { IfOk result IsWithinLimits }
 
     // After Ok the files were empty and are the new database, and a crash leaves exactly what the host holds.
     ensures made { OnOk result (TellsOn (H.told host.old) (H.told host.new) (IsMade header.now)) }

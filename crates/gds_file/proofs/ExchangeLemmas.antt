@@ -70,7 +70,7 @@ module _ (before after : List ℕ) (directory : Tree) (globals : List Tree) (s :
   stay_apart : (n : ℕ) → has_block stays n ≡ true → has_block old n ≡ false
   stay_apart n h = false_from_ne_true (has_block old n) (λ e. both_ways (has_block stays n) (old_apart n e) h)
 
-  busy_before : AreBusy before (blocks_of directory globals)
+  pub busy_before : AreBusy before (blocks_of directory globals)
   busy_before = ((maps_in_two_parts before (blocks_of directory globals)).0 (record {
     maps = s.maps;
     count = s.count;

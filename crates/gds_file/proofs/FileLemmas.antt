@@ -18,7 +18,7 @@ use Rattle.gds_file.proofs.ExchangeLemmas.{HasParts, stay_kept, sound_now}
 -- ---- lists of trees in parts
 
 -- the blocks of trees
-abbrev blocks_in : List Tree → List ℕ
+abbrev pub blocks_in : List Tree → List ℕ
 blocks_in trees = flat_map (λ tree. tree.blocks) trees
 
 count_in : (n : ℕ) (xs ys : List Tree)
@@ -71,10 +71,10 @@ directory_changes before after old new globals s r stands items lawful =
     lawful
 
 -- the blocks of a directory and of the trees beside one place
-abbrev beside : Tree → List Tree → List Tree → List ℕ
+abbrev pub beside : Tree → List Tree → List Tree → List ℕ
 beside directory left right = directory.blocks ++ (blocks_in left ++ blocks_in right)
 
-with_global : (directory tree : Tree) (left right : List Tree)
+pub with_global : (directory tree : Tree) (left right : List Tree)
     → HasParts (blocks_of directory (left ++ tree ∷ right)) tree.blocks (beside directory left right)
 with_global directory tree left right = record {
   counts = λ n. omega (

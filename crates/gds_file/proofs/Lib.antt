@@ -10,3 +10,4 @@ pub mod StampLemmas
 pub mod ChangeLemmas
 pub mod KillLemmas
 pub mod RewriteLemmas
+pub mod TakeLemmas

@@ -1,16 +1,16 @@
 -- Blocks that are written anew in their places.
-use Rattle.std.proofs.Common.{◌≡◌, ◌≢◌, ℕ, ◌*◌, ◌/◌, ◌%◌, ◌<◌, ◌==◌, true, false, ◌&&◌, ◌||◌, List, ◌++◌, ◌⊎◌, inl, inr, refl}
+use Rattle.std.proofs.Common.{◌≡◌, ℕ, ◌*◌, ◌/◌, ◌%◌, ◌<◌, ◌==◌, true, false, ◌&&◌, List, refl}
 use Rattle.std.proofs.Common.{sym, ap, subst, ◌∙◌, arith}
 use Rattle.std.specs.Prelude.{Bool, IsTrue, nat_lt}
 use Rattle.std.proofs.lemmas.Bool.{or_parts, both_ways, false_from_ne_true}
 use Rattle.gds_block.specs.Block.{version_of, reserved_of, level_of, used_of, tn_of}
 use Rattle.gds_bitmap.specs.Bitmap.{pair_of}
-use Rattle.gds_header.specs.Fields.{fields_of, block_of}
-use Rattle.gds_header.specs.Kinds.{header_faults, groups_of, has_free}
+use Rattle.gds_header.specs.Fields.{fields_of}
+use Rattle.gds_header.specs.Kinds.{groups_of, has_free}
 use Rattle.gds_law.specs.Maps.{map_of, is_present}
 use Rattle.gds_sound.proofs.HeaderLemmas.{same_fields, same_header_faults}
 use Rattle.gds_file.specs.Maps.{has_block, is_busy, IsLawfulMap, AreLawfulMaps}
-use Rattle.gds_file.specs.Reshape.{KeepsLimits, Reshapes}
+use Rattle.gds_file.specs.Reshape.{Reshapes}
 use Rattle.gds_file.specs.FileLaws.{IsLawful}
 use Rattle.gds_file.specs.Rewrite.{Rewrites, AreNoMaps, AreAllBusy}
 use Rattle.gds_file.specs.RewriteLaws.{RewriteKeepsHeader, RewriteStaysLawful, RewriteReshapes, RewritesCompose}

@@ -14,7 +14,7 @@ use Rattle.gds_file.specs.Maps.{has_block, is_busy, IsLawfulPair, IsLawfulMap, A
 
 -- ---- a pair
 
-free_pair : (pair : ℕ) → pair ≢ 0 → pair ≢ 2 → is_free (state_from pair) ≡ true
+pub free_pair : (pair : ℕ) → pair ≢ 0 → pair ≢ 2 → is_free (state_from pair) ≡ true
 free_pair zero n m = absurd (n refl)
 free_pair (suc zero) n m = refl
 free_pair (suc (suc zero)) n m = absurd (m refl)

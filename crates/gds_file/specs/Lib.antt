@@ -9,3 +9,5 @@ pub mod FileLaws
 pub mod ChangeLaws
 pub mod Rewrite
 pub mod RewriteLaws
+pub mod Take
+pub mod TakeLaws

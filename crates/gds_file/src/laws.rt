@@ -6,6 +6,7 @@ ghost use Rattle.gds_file.specs.MapLaws.{MapsAreRightInTwoParts};
 ghost use Rattle.gds_file.specs.ReshapeLaws.{NothingReshapes, ReshapesCompose, ReshapesInAnyOrder, ReshapesWithMore};
 ghost use Rattle.gds_file.specs.RewriteLaws.{RewriteKeepsHeader, RewriteReshapes, RewriteStaysLawful, RewritesCompose};
 ghost use Rattle.gds_file.specs.SameLaws.{SameCarriesOver};
+ghost use Rattle.gds_file.specs.TakeLaws.{TakeReshapes, TakeStaysLawful};
 
 /// A file that is the same as a sound one, but for what stands in blocks that were never used, is sound with the same
 /// trees and stands for the same map.
@@ -33,6 +34,12 @@ pub fn rewrites()
     ensures lawful { RewriteStaysLawful }
     ensures reshapes { RewriteReshapes }
     ensures compose { RewritesCompose }
+{}
+
+/// A free block is taken: the maps stay lawful, and it is a change of no block to that one.
+pub fn takes()
+    ensures lawful { TakeStaysLawful }
+    ensures reshapes { TakeReshapes }
 {}
 
 /// A sound file stays sound where it only grows, where the tree of the directory or of one global becomes another sound

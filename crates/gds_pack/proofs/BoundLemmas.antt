@@ -45,12 +45,13 @@ packed_size-added a b i =
 
 -- ---- where keys rise
 
-record Heads (x y : ℕ) (a b : List ℕ) : Type 0 where
-  below : x ≤ y
-  tails : x ≡ y → slice_cmp nat_cmp a b ≡ Less
+-- What the first bytes of two rising keys say.
+pub record Heads (x y : ℕ) (a b : List ℕ) : Type 0 where
+  pub below : x ≤ y
+  pub tails : x ≡ y → slice_cmp nat_cmp a b ≡ Less
 
-heads_of : (x y : ℕ) (a b : List ℕ) (o : Ordering) → o ≡ nat_cmp x y → ordering_then o (slice_cmp nat_cmp a b) ≡ Less
-    → Heads x y a b
+pub heads_of : (x y : ℕ) (a b : List ℕ) (o : Ordering) → o ≡ nat_cmp x y
+    → ordering_then o (slice_cmp nat_cmp a b) ≡ Less → Heads x y a b
 heads_of x y a b Less e h = record { below = grind (arith, nat_tests); tails = λ s. absurd (grind (arith, nat_tests)) }
 heads_of x y a b Equal e h = record { below = grind (arith, nat_tests); tails = λ s. h }
 heads_of x y a b Greater e h = absurd (cc)
@@ -101,7 +102,7 @@ index_share : (p : List ℕ) (b : List Item) (i j : Item) → IsNext p i → Are
 index_share p [] i j next (nokey, four) = omega (arith, ap (shared p) nokey, shared-nil p)
 index_share p (k ∷ b) i j next more = shared-between p i.key j.key next.above more.0.above
 
-share : (level : ℕ) (a b : List Item) (i : Item) → ArePackable level (a ++ i ∷ b)
+pub share : (level : ℕ) (a b : List Item) (i : Item) → ArePackable level (a ++ i ∷ b)
     → shared (key_behind [] a) (first_key b) ≤ shared i.key (first_key b)
 share zero a b i h =
     let both = leaves_at [] a b i h in

@@ -88,7 +88,7 @@ AreRecords-packed level offset previous (i ∷ is) (h, more) =
           (AreRecords-packed level (offset + record_size previous i) i.key is more)),
     )
 
-length-body : (offset : ℕ) (previous : List ℕ) (i : Item)
+pub length-body : (offset : ℕ) (previous : List ℕ) (i : Item)
     → length (packed_record offset previous i).body + 4 ≡ record_size previous i
 length-body offset previous i = simp (length-append, length-drop) (omega arith)
 
@@ -105,15 +105,15 @@ end_of-packed offset previous (i ∷ is) =
 -- ---- the items that a block may have
 
 -- No key, or a whole one.
-abbrev IsBefore : List ℕ → Type 0
+abbrev pub IsBefore : List ℕ → Type 0
 IsBefore previous = (previous ≡ []) ⊎ IsKey previous
 
 -- What two neighbouring keys share lets the record be read.
-record Neighbours (previous : List ℕ) (i : Item) : Type 0 where
-  lawful : is_count previous (shared previous i.key) ≡ true
-  below : shared previous i.key < length i.key
+pub record Neighbours (previous : List ℕ) (i : Item) : Type 0 where
+  pub lawful : is_count previous (shared previous i.key) ≡ true
+  pub below : shared previous i.key < length i.key
 
-neighbours : (previous : List ℕ) (i : Item) → IsBefore previous → IsNext previous i → Neighbours previous i
+pub neighbours : (previous : List ℕ) (i : Item) → IsBefore previous → IsNext previous i → Neighbours previous i
 neighbours previous i (inl e) next =
     let long = length-key i.key next.is_key in
     let none : shared previous i.key ≡ 0 = ap (λ p. shared p i.key) e in
@@ -214,7 +214,7 @@ AreSized-index level previous (i ∷ j ∷ is) before (next, four, more) room =
       AreSized-index level i.key (j ∷ is) (inr next.is_key) more (omega arith),
     )
 
-AreSized-packable : (level : ℕ) (is : List Item) → ArePackable level is → packed_size is < 2 ^ 16 → AreSized level [] is
+pub AreSized-packable : (level : ℕ) (is : List Item) → ArePackable level is → packed_size is < 2 ^ 16 → AreSized level [] is
 AreSized-packable zero is h room = AreSized-leaves [] is (inl refl) h (omega arith)
 AreSized-packable (suc level) is h room = AreSized-index level [] is (inl refl) h (omega arith)
 
@@ -261,7 +261,7 @@ module _ (is : List Item) (level tn room : ℕ) (fits : packed_size is ≤ room)
   unfolding block_bytes u16_bytes u32_bytes u64_bytes
   behind_head = refl
 
-  bytes_left-block_bytes : bytes_left (block_bytes is level tn room) 16 ≡ records_bytes [] is
+  pub bytes_left-block_bytes : bytes_left (block_bytes is level tn room) 16 ≡ records_bytes [] is
   bytes_left-block_bytes =
       let block = block_bytes is level tn room in
       let size = records_size [] is in

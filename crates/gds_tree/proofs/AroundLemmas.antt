@@ -1,29 +1,27 @@
 -- A path leads to a tree inside another, and another may stand in its place.
-use Rattle.std.proofs.Common.{◌≡◌, ℕ, zero, suc, ◌+◌, ◌<◌, ◌≤◌, List, [], ◌∷◌, ◌++◌, length, Option, None, Some, inl, inr}
+use Rattle.std.proofs.Common.{◌≡◌, ℕ, suc, ◌+◌, ◌<◌, List, [], ◌∷◌, ◌++◌, length, Option, Some, inl, inr}
 use Rattle.std.proofs.Common.{refl, sym, ap, subst, ◌∙◌, arith}
-use Rattle.std.specs.Prelude.{⊤}
-use Rattle.std.specs.List.{AllByRecursion}
 use Rattle.std.proofs.lemmas.List.Elements.{All-from_recursion, recursion_from_All}
 use Rattle.gds_block.specs.Fields.{u32_at}
 use Rattle.gds_block.specs.Item.{Item}
 use Rattle.gds_header.specs.Fields.{fields_of, block_of}
 use Rattle.gds_law.specs.Visit.{Visit, Child}
-use Rattle.gds_law.specs.Path.{Steps, children_at, visit_from}
+use Rattle.gds_law.specs.Path.{Steps, visit_from}
 use Rattle.gds_law.proofs.MembershipLemmas.{IsIn}
 use Rattle.gds_pack.specs.Packed.{record_size}
 use Rattle.gds_sound.specs.Sound.{Tree, joined, sound_tree}
 use Rattle.gds_sound.proofs.TreeLemmas.{root_only, leads_through}
 use Rattle.gds_tree.specs.Lawful.{IsLawfulEntry}
-use Rattle.gds_tree.specs.Below.{visit_below, index_children, low_behind, both, trees_below, HasEntries, index_tree}
-use Rattle.gds_tree.specs.Keeps.{IsImage, KeepsSizes, KeepsBlocks}
-use Rattle.gds_tree.specs.Around.{around, Exchanges, IsAround}
-use Rattle.gds_tree.proofs.BelowLemmas.{all_left, all_right, all_weaker, AreBoth, both_parts, some_both, below_append}
+use Rattle.gds_tree.specs.Below.{visit_below, index_children, low_behind, trees_below, HasEntries, index_tree}
+use Rattle.gds_tree.specs.Keeps.{IsImage, KeepsBlocks}
+use Rattle.gds_tree.specs.Around.{around, IsAround}
+use Rattle.gds_tree.proofs.BelowLemmas.{all_left, all_right, all_weaker, both_parts, some_both, below_append}
 use Rattle.gds_tree.proofs.BelowLemmas.{joined_assoc, joined_none}
 use Rattle.gds_tree.proofs.ImageLemmas.{has_children}
 use Rattle.gds_tree.proofs.KeepLemmas.{pointers, index_reach, entries_kept}
 use Rattle.gds_tree.proofs.PartLemmas.{lawful_index}
 use Rattle.gds_tree.proofs.ReplaceLemmas.{forest_grown}
-use Rattle.gds_tree.proofs.TreeByLemmas.{index_by, IndexBy, by_index}
+use Rattle.gds_tree.proofs.TreeByLemmas.{index_by, by_index}
 
 -- the entry to which a child of an index block belongs
 record IsChildOf (v : Visit) (level : ℕ) (low : Option (List ℕ)) (es : List Item) (c : Child) : Type 0 where
@@ -43,13 +41,13 @@ child_of v level at previous low (f ∷ es) c (inr i) =
     record { a = f ∷ r.a; e = r.e; b = r.b; whole = ap (λ l. f ∷ l) r.whole; leads = r.leads }
 
 -- what is kept of lists one after another
-kept_left : (old new xs ys : List ℕ) → KeepsBlocks old new (xs ++ ys) → KeepsBlocks old new xs
+pub kept_left : (old new xs ys : List ℕ) → KeepsBlocks old new (xs ++ ys) → KeepsBlocks old new xs
 kept_left old new xs ys h =
     All-from_recursion (λ n. block_of new n ≡ block_of old n) xs
     (all_left (λ n. block_of new n ≡ block_of old n) xs ys
     (recursion_from_All (λ n. block_of new n ≡ block_of old n) (xs ++ ys) h))
 
-kept_right : (old new xs ys : List ℕ) → KeepsBlocks old new (xs ++ ys) → KeepsBlocks old new ys
+pub kept_right : (old new xs ys : List ℕ) → KeepsBlocks old new (xs ++ ys) → KeepsBlocks old new ys
 kept_right old new xs ys h =
     All-from_recursion (λ n. block_of new n ≡ block_of old n) ys
     (all_right (λ n. block_of new n ≡ block_of old n) xs ys
@@ -78,6 +76,7 @@ module _ (image : List ℕ) (i : IsImage image) where
     before = record { blocks = []; items = [] };
     inner = t;
     behind = record { blocks = []; items = [] };
+    role = refl;
     sound = h;
     whole = around_none t;
     exchanges = λ new j sizes more kept kept' inner k.
@@ -103,6 +102,7 @@ module _ (image : List ℕ) (i : IsImage image) where
         before = joined (joined root p.first) r.before;
         inner = r.inner;
         behind = joined r.behind q.second;
+        role = r.role;
         sound = r.sound;
         whole = is ∙ ap (joined root) (p.is ∙ ap (joined p.first) (q.is ∙ ap (λ s. joined s q.second) r.whole))
             ∙ regroup root p.first r.before r.inner r.behind q.second;

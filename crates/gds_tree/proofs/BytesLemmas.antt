@@ -1,10 +1,10 @@
 -- A right block that is made of bytes uses those of its packed entries.
-use Rattle.std.proofs.Common.{◌≡◌, ℕ, zero, suc, ◌+◌, ◌-◌, ◌<◌, ◌≤◌, List, [], ◌∷◌, ◌++◌, length, get_or, take, drop, refl}
+use Rattle.std.proofs.Common.{◌≡◌, ℕ, ◌+◌, ◌<◌, ◌≤◌, List, [], ◌∷◌, ◌++◌, length, get_or, take, drop, refl}
 use Rattle.std.proofs.Common.{sym, ap, subst, ◌∙◌, arith, append_assoc, inl, inr}
-use Rattle.std.specs.Prelude.{◌^◌, All}
+use Rattle.std.specs.Prelude.{All}
 use Rattle.std.specs.Int.{w16, from_le_bytes}
-use Rattle.std.proofs.lemmas.List.{take-append-drop, take-take, drop-take, drop-drop, length-append, length-drop}
-use Rattle.std.proofs.lemmas.List.{length-take, length-take-le, nil_from_length, get_or_past}
+use Rattle.std.proofs.lemmas.List.{take-append-drop, take-take, drop-take, length-drop}
+use Rattle.std.proofs.lemmas.List.{length-take, nil_from_length, get_or_past}
 use Rattle.std.proofs.lemmas.List.Elements.{All-take, All-drop, All-get_or}
 use Rattle.std.proofs.lemmas.Bool.{cases_lt}
 use Rattle.std.proofs.lemmas.Nat.{le_bytes_2}
@@ -16,7 +16,7 @@ use Rattle.gds_block.specs.Record as block
 use Rattle.gds_block.proofs.FieldLemmas.{u16_at-front}
 use Rattle.gds_block.proofs.RecordLemmas.{Fits-from_well_sized, AreRecords-records_from}
 use Rattle.m_key.specs.KeyEnd.{shared}
-use Rattle.gds_pack.specs.Packed.{record_size, record_bytes, records_size, records_bytes, packed_size, packed_record}
+use Rattle.gds_pack.specs.Packed.{record_size, record_bytes, records_size, records_bytes, packed_size}
 use Rattle.gds_pack.specs.Packed.{packed_records}
 use Rattle.gds_tree.proofs.ReadLemmas.{packed_length}
 

@@ -1,42 +1,40 @@
 -- With the record of a lawful entry nothing is wrong, and it is read as the entry.
-use Rattle.std.proofs.Common.{◌≡◌, ℕ, zero, suc, ◌+◌, ◌-◌, ◌%◌, ◌<◌, ◌≤◌, ◌==◌, Bool, true, false, not, ◌&&◌, ◌||◌}
-use Rattle.std.proofs.Common.{List, [], ◌∷◌, ◌++◌, length, take, drop, filter, if◌then◌else◌, Option, None, Some, ◌⊎◌}
-use Rattle.std.proofs.Common.{inl, inr, refl, sym, ap, subst, ◌∙◌, arith, append_assoc}
+use Rattle.std.proofs.Common.{◌≡◌, ℕ, zero, suc, ◌+◌, ◌-◌, ◌<◌, ◌≤◌, ◌==◌, Bool, true, false, not, ◌&&◌}
+use Rattle.std.proofs.Common.{List, [], ◌++◌, length, take, drop, if◌then◌else◌, None, Some, ◌⊎◌}
+use Rattle.std.proofs.Common.{inl, inr, refl, sym, ap, ◌∙◌, arith, append_assoc}
 use Rattle.std.specs.Prelude.{◌^◌, nat_lt, nat_le, is_none, unwrap_or}
 use Rattle.std.specs.List.{list_any}
 use Rattle.std.specs.Option.{option_map_or}
 use Rattle.std.specs.Ordering.{is_lt}
 use Rattle.std.proofs.lemmas.Bool.{cond-true, cond-false, cond_both, eq-eqb, ne_eqb, le-ltb, lt-leb, and_left, and_right}
-use Rattle.std.proofs.lemmas.Bool.{not_from_true, not_from_false, and_from, and_parts, cases_Bool}
-use Rattle.std.proofs.lemmas.List.{take-append-drop, take_at, drop_at, drop_all, length-take, length-append, length-drop}
+use Rattle.std.proofs.lemmas.Bool.{not_from_true, and_parts, cases_Bool}
+use Rattle.std.proofs.lemmas.List.{take-append-drop, take_at, drop_at, drop_all}
 use Rattle.std.proofs.Math.Seq.{take-append-add}
 use Rattle.gds_block.specs.Fields.{u32_at}
 use Rattle.gds_block.specs.Item.{Item}
 use Rattle.gds_header.specs.Kinds.{through_first}
 use Rattle.gds_law.specs.Kinds.{ends, record_kinds}
-use Rattle.gds_law.specs.Visit.{TreeRole, directory, global, Visit}
+use Rattle.gds_law.specs.Visit.{TreeRole, directory, global}
 use Rattle.gds_law.specs.Key.{key_fault}
-use Rattle.gds_law.specs.BlockReading.{BlockReading, PlacedRecord, is_first, is_last, size_of, full_of, key_end, key_of}
-use Rattle.gds_law.specs.BlockReading.{rest_of, has_values, points, pointer_of}
+use Rattle.gds_law.specs.BlockReading.{BlockReading, PlacedRecord, is_last, full_of, key_end, key_of}
+use Rattle.gds_law.specs.BlockReading.{rest_of, has_values, points}
 use Rattle.gds_law.specs.Record.{holds, keyed_holds, last_holds, is_kind, has_pointer, kinds_of, is_ended, is_below}
 use Rattle.gds_law.specs.Record.{is_directory, is_other_global, is_above_bound, is_below_bound}
 use Rattle.m_key.specs.KeyParts.{name_part, subscript_parts}
 use Rattle.gds_law.specs.declared.kind.FaultKind.{FaultKind}
 use Rattle.gds_law.specs.declared.kind.FaultKind.TheVariants.{StarSize, StarCount, FirstCount, CountTooLarge}
 use Rattle.gds_law.specs.declared.kind.FaultKind.TheVariants.{KeyTooLong, KeyWithoutEnd, WrongCount, KeyOutOfOrder}
-use Rattle.gds_law.specs.declared.kind.FaultKind.TheVariants.{BadName, TooManySubscripts, BadNumber, BadString}
-use Rattle.gds_law.specs.declared.kind.FaultKind.TheVariants.{NullSubscript, DirectorySubscript, WrongGlobal}
+use Rattle.gds_law.specs.declared.kind.FaultKind.TheVariants.{DirectorySubscript, WrongGlobal}
 use Rattle.gds_law.specs.declared.kind.FaultKind.TheVariants.{KeyAboveBound, KeyBelowBound, RestNotPointer}
 use Rattle.gds_law.specs.declared.kind.FaultKind.TheVariants.{ValueTooLong, PointerNotPositive, PointerTooLarge}
 use Rattle.gds_law.specs.declared.kind.FaultKind.TheVariants.{PointerToMap}
 use Rattle.m_key.specs.KeyEnd.{key_len, IsKey, shared}
-use Rattle.m_key.proofs.KeyEndLemmas.{take-shared, shared-nil, shared-below, key_len-append, length-key}
-use Rattle.gds_pack.specs.Packed.{record_size, packed_record}
+use Rattle.m_key.proofs.KeyEndLemmas.{take-shared, shared-nil, shared-below, key_len-append}
+use Rattle.gds_pack.specs.Packed.{packed_record}
 use Rattle.gds_pack.specs.Packable.{IsNext}
 use Rattle.gds_sound.proofs.BlockLemmas.{seen, nil_filter}
-use Rattle.gds_tree.specs.Lawful.{IsTreeNumber, IsPointer, IsLawfulRest, IsLawfulKey, IsLawfulEntry}
+use Rattle.gds_tree.specs.Lawful.{IsPointer, IsLawfulRest, IsLawfulKey}
 use Rattle.gds_tree.proofs.TestLemmas.{role_global, role_directory, below_to, above_to, NoPointerKind, number_to}
-use Rattle.gds_tree.proofs.ReadLemmas.{packed_length}
 
 -- What stands before a record: nothing in the first record, and else a whole key.
 abbrev pub Before : ℕ → List ℕ → Type 0

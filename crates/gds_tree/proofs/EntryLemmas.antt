@@ -1,24 +1,23 @@
 -- A record with which nothing is wrong is that of a lawful entry.
-use Rattle.std.proofs.Common.{◌≡◌, ℕ, zero, suc, ◌+◌, ◌-◌, ◌<◌, ◌≤◌, ◌==◌, Bool, true, false, not, ◌&&◌, ◌||◌, List, []}
-use Rattle.std.proofs.Common.{◌∷◌, ◌++◌, length, take, drop, if◌then◌else◌, Option, None, Some, inl, inr, refl, sym, ap}
-use Rattle.std.proofs.Common.{subst, ◌∙◌, arith, append_assoc}
-use Rattle.std.specs.Prelude.{slice_get, nat_lt, nat_le, unwrap_or}
+use Rattle.std.proofs.Common.{◌≡◌, ℕ, zero, suc, ◌<◌, ◌≤◌, ◌==◌, true, false, not, ◌&&◌, List, []}
+use Rattle.std.proofs.Common.{◌∷◌, ◌++◌, length, take, drop, if◌then◌else◌, Some, inl, inr, refl, sym, ap}
+use Rattle.std.proofs.Common.{◌∙◌, arith, append_assoc}
+use Rattle.std.specs.Prelude.{slice_get, nat_lt, unwrap_or}
 use Rattle.std.proofs.lemmas.Bool.{cond-true, cond-false, not-false, eqb-true, eq-eqb, ne_eqb, ltb-true, ltb-false}
 use Rattle.std.proofs.lemmas.Bool.{and_parts}
 use Rattle.std.proofs.lemmas.List.{take-append-drop, drop_at, length-take}
 use Rattle.gds_block.specs.Fields.{u32_at}
 use Rattle.gds_block.specs.Item.{Item}
-use Rattle.gds_block.specs.Record.{Record}
 use Rattle.gds_law.specs.Kinds.{record_kinds}
-use Rattle.gds_law.specs.Visit.{TreeRole, directory, global, Visit}
+use Rattle.gds_law.specs.Visit.{TreeRole, directory, global}
 use Rattle.gds_law.specs.BlockReading.{BlockReading, PlacedRecord, is_last, size_of, full_of, key_end, key_of, rest_of}
-use Rattle.gds_law.specs.BlockReading.{has_values, points, pointer_of}
+use Rattle.gds_law.specs.BlockReading.{has_values, points}
 use Rattle.gds_law.specs.Record.{holds, keyed_holds, last_holds}
 use Rattle.gds_law.specs.declared.kind.FaultKind.{FaultKind}
 use Rattle.gds_law.specs.declared.kind.FaultKind.TheVariants.{StarSize, StarCount, KeyTooLong, KeyWithoutEnd, WrongCount}
 use Rattle.gds_law.specs.declared.kind.FaultKind.TheVariants.{DirectorySubscript, WrongGlobal, KeyAboveBound}
 use Rattle.gds_law.specs.declared.kind.FaultKind.TheVariants.{KeyBelowBound, RestNotPointer, ValueTooLong}
-use Rattle.m_key.specs.KeyEnd.{key_len, IsKey, shared}
+use Rattle.m_key.specs.KeyEnd.{shared}
 use Rattle.m_key.proofs.KeyEndLemmas.{take-shared, shared-nil, key_len-within}
 use Rattle.gds_pack.specs.Packed.{packed_record}
 use Rattle.gds_pack.specs.Packable.{IsNext}

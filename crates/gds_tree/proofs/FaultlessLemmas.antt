@@ -1,30 +1,32 @@
 -- With a right block nothing is wrong, and its children and items are by its entries. What is packed is right.
-use Rattle.std.proofs.Common.{◌≡◌, ℕ, zero, suc, ◌+◌, ◌-◌, ◌<◌, ◌≤◌, ◌==◌, Bool, true, false, not, List, [], ◌∷◌, ◌++◌}
-use Rattle.std.proofs.Common.{length, take, drop, if◌then◌else◌, inl, inr, refl, sym, ap, subst, ◌∙◌, arith}
+use Rattle.std.proofs.Common.{◌≡◌, ℕ, zero, suc, ◌+◌, ◌-◌, ◌<◌, ◌≤◌, not, List, [], ◌∷◌, ◌++◌}
+use Rattle.std.proofs.Common.{length, take, inl, refl, sym, ap, subst, ◌∙◌, arith}
 use Rattle.std.proofs.Common.{append_assoc}
 use Rattle.std.specs.Prelude.{◌^◌, replicate}
 use Rattle.std.specs.List.{list_any}
 use Rattle.std.proofs.lemmas.Bool.{cond-false, eq-eqb}
 use Rattle.std.proofs.lemmas.List.{drop_all, length-take}
 use Rattle.std.proofs.lemmas.List.Elements.{recursion_from_All}
-use Rattle.gds_block.specs.Block.{version_of, reserved_of, level_of, used_of, tn_of, head_bytes, HasHead}
+use Rattle.gds_block.specs.Block.{level_of, used_of, head_bytes, HasHead}
 use Rattle.gds_block.specs.Item.{Item}
 use Rattle.gds_block.specs.Record.{records_of, bytes_left}
 use Rattle.gds_block.proofs.HeadLemmas.{HasHead-front, take-head_bytes}
 use Rattle.gds_header.specs.declared.header.Header.{Header}
+use Rattle.gds_header.specs.Fields.{fields_of, block_of}
 use Rattle.gds_header.specs.Kinds.{IsWithinLimits}
 use Rattle.gds_law.specs.Kinds.{ends}
-use Rattle.gds_law.specs.Visit.{TreeRole, directory, global, Visit, Child}
-use Rattle.gds_law.specs.BlockReading.{BlockReading, reading_of, has_values, points}
+use Rattle.gds_law.specs.Visit.{TreeRole, directory, global, Visit}
+use Rattle.gds_law.specs.BlockReading.{reading_of, has_values}
 use Rattle.gds_law.specs.Block.{kinds_of_head, kinds_from, kinds_of_block, children_from, children_of}
 use Rattle.gds_pack.specs.Packed.{records_size, records_bytes, packed_size, packed_records, block_bytes}
 use Rattle.gds_pack.specs.Packable.{ArePackable}
-use Rattle.gds_pack.proofs.ReadLemmas.{used_of-block_bytes, length-block_bytes, entries_of-block_bytes}
+use Rattle.gds_pack.proofs.ReadLemmas.{level_of-block_bytes, length-block_bytes, entries_of-block_bytes}
 use Rattle.gds_sound.specs.Stands.{items_from, items_of}
 use Rattle.gds_sound.proofs.BlockLemmas.{value_children}
-use Rattle.gds_tree.specs.Lawful.{IsLawfulEntry, MayBeEmpty, IsLawful}
-use Rattle.gds_tree.specs.RightBlock.{IsStamped, IsDueLevel, HasRightHead, IsRightBlock}
-use Rattle.gds_tree.specs.Below.{leaf_children, children_by}
+use Rattle.gds_tree.specs.Lawful.{IsLawfulEntry, IsLawful}
+use Rattle.gds_tree.specs.RightBlock.{IsDueLevel, IsRightBlock}
+use Rattle.gds_tree.specs.Below.{leaf_children, children_by, HasEntries}
+use Rattle.gds_tree.specs.Keeps.{IsImage}
 use Rattle.gds_tree.proofs.UsedLemmas.{none_from}
 use Rattle.gds_tree.proofs.HeadLemmas.{no_head_kinds}
 use Rattle.gds_tree.proofs.FineLemmas.{Lawful, leaf_kinds, leaf_items, root_children}
@@ -145,3 +147,15 @@ module _ (h : Header) (v : Visit) (level tn : ℕ) (es : List Item) (limits : Is
 pub packed_long : (h : Header) (level tn : ℕ) (es : List Item) → IsWithinLimits h → packed_size es ≤ h.block_size
     → length (block_bytes es level tn h.block_size) ≡ h.block_size
 packed_long h level tn es limits fits = length-block_bytes es level tn h.block_size fits limits.block_to
+
+-- An image in which it stands has these entries there.
+pub written_entries : (image : List ℕ) (v : Visit) (level tn : ℕ) (es : List Item) → IsImage image
+    → v.block < (fields_of image).total → block_of image v.block ≡ block_bytes es level tn (fields_of image).block_size
+    → IsLawful (fields_of image) v level es → packed_size es ≤ (fields_of image).block_size → IsDueLevel v.level level
+    → tn < (fields_of image).tn → tn < 2 ^ 64 → HasEntries image v level es
+written_entries image v level tn es i there is lawful fits due low small = record {
+  there = there;
+  level = ap level_of is ∙ level_of-block_bytes es level tn (fields_of image).block_size fits i.limits.block_to;
+  right = subst (λ b. IsRightBlock (fields_of image) v b es) (sym is)
+      (packed_right (fields_of image) v level tn es i.limits lawful fits due low small);
+}

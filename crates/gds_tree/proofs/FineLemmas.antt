@@ -1,31 +1,29 @@
 -- With a block whose records are those of lawful entries nothing is wrong; its items and children are by the entries.
-use Rattle.std.proofs.Common.{◌≡◌, ℕ, zero, suc, ◌+◌, ◌-◌, ◌<◌, ◌≤◌, ◌==◌, Bool, true, false, not, ◌&&◌, List, [], ◌∷◌}
-use Rattle.std.proofs.Common.{◌++◌, length, map, take, drop, if◌then◌else◌, Option, None, Some, ◌⊎◌, inl, inr, refl, sym}
-use Rattle.std.proofs.Common.{ap, subst, ◌∙◌, arith}
-use Rattle.std.specs.Prelude.{◌^◌, nat_lt}
+use Rattle.std.proofs.Common.{◌≡◌, ℕ, ◌+◌, ◌≤◌, ◌==◌, true, false, ◌&&◌, List, [], ◌∷◌}
+use Rattle.std.proofs.Common.{◌++◌, length, map, if◌then◌else◌, None, Some, inl, inr, refl}
+use Rattle.std.proofs.Common.{ap, ◌∙◌, arith}
+use Rattle.std.specs.Prelude.{◌^◌}
 use Rattle.std.specs.List.{AllByRecursion}
-use Rattle.std.proofs.lemmas.Bool.{cond-true, cond-false, eq-eqb, ne_eqb, lt-ltb, and_from, and_right}
+use Rattle.std.proofs.lemmas.Bool.{cond-true, cond-false, eq-eqb, and_from}
 use Rattle.gds_block.specs.Fields.{u32_at}
 use Rattle.gds_block.specs.Item.{Item}
 use Rattle.gds_block.specs.Record.{Record, bytes_left}
-use Rattle.gds_law.specs.Visit.{TreeRole, directory, global, Visit, Child}
-use Rattle.gds_law.specs.BlockReading.{BlockReading, PlacedRecord, is_first, is_last, size_of, key_of, rest_of, points}
-use Rattle.gds_law.specs.BlockReading.{pointer_of}
-use Rattle.gds_law.specs.Record.{kinds_of, is_ended, is_sound, low_of, high_of, target_of, child_to, children_of_record}
+use Rattle.gds_law.specs.Visit.{Visit}
+use Rattle.gds_law.specs.BlockReading.{BlockReading, PlacedRecord, is_last, size_of, key_of, rest_of, points}
+use Rattle.gds_law.specs.Record.{is_sound, target_of, child_to, children_of_record}
 use Rattle.gds_law.specs.Block.{size_kinds, kinds_from, children_from}
-use Rattle.gds_law.specs.declared.kind.FaultKind.{FaultKind}
 use Rattle.m_key.specs.KeyEnd.{IsKey}
 use Rattle.m_key.proofs.KeyEndLemmas.{length-key}
 use Rattle.gds_pack.specs.Packed.{record_size, records_size, packed_record, packed_records}
-use Rattle.gds_pack.specs.Packable.{IsNext, AreLeaves, AreIndex}
+use Rattle.gds_pack.specs.Packable.{IsNext, AreLeaves}
 use Rattle.gds_sound.specs.Sound.{root_of}
 use Rattle.gds_sound.specs.Stands.{items_from}
 use Rattle.gds_sound.proofs.BlockLemmas.{seen, not_last}
-use Rattle.gds_tree.specs.Lawful.{IsPointer, IsLawfulKey, IsLawfulEntry}
-use Rattle.gds_tree.specs.Below.{high_below, visit_below, index_children, directory_children}
+use Rattle.gds_tree.specs.Lawful.{IsPointer, IsLawfulEntry}
+use Rattle.gds_tree.specs.Below.{directory_children}
 use Rattle.gds_tree.proofs.TestLemmas.{number_sound}
 use Rattle.gds_tree.proofs.ReadLemmas.{packed_length}
-use Rattle.gds_tree.proofs.CleanLemmas.{Before, IsFine, pointer_due, key_is, rest_is, keyed_fine, star_fine, star_body}
+use Rattle.gds_tree.proofs.CleanLemmas.{Before, IsFine, pointer_due, key_is, rest_is, keyed_fine}
 
 -- A whole key isn't empty.
 pub some_key : (key : List ℕ) → IsKey key → key ≡ [] → ⊥

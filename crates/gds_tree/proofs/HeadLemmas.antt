@@ -1,11 +1,10 @@
 -- A right head, said by the kinds that are asked of it: one from the other.
-use Rattle.std.proofs.Common.{◌≡◌, ℕ, zero, suc, ◌+◌, ◌<◌, ◌≤◌, ◌==◌, Bool, true, false, not, ◌&&◌, ◌||◌, List, []}
-use Rattle.std.proofs.Common.{◌∷◌, length, filter, Option, None, Some, inl, inr, refl, sym, ap, subst, ◌∙◌, arith}
-use Rattle.std.specs.Prelude.{slice_get, nat_lt, nat_le, is_none}
+use Rattle.std.proofs.Common.{◌≡◌, ℕ, ◌≤◌, ◌==◌, true, false, not, ◌&&◌, List, []}
+use Rattle.std.proofs.Common.{filter, Option, None, Some, inl, inr, refl, sym, ap, subst, ◌∙◌, arith}
+use Rattle.std.specs.Prelude.{slice_get, is_none}
 use Rattle.std.proofs.lemmas.Bool.{not-false, eqb-true, eq-eqb, ne_eqb, ltb-false, le-ltb, lt-leb, leb-false, and_parts}
 use Rattle.std.proofs.lemmas.Bool.{and_left, and_right, and_from, or_parts, or_from, not_from_true, eqb-false, cases_Bool}
 use Rattle.gds_block.specs.Block.{version_of, reserved_of, level_of, used_of, tn_of}
-use Rattle.gds_block.specs.Item.{Item}
 use Rattle.gds_header.specs.declared.header.Header.{Header}
 use Rattle.gds_header.specs.Kinds.{through_first}
 use Rattle.gds_law.specs.Kinds.{ends, head_kinds}
@@ -16,7 +15,6 @@ use Rattle.gds_law.specs.Block.{is_wrong_level, may_be_empty, head_holds, kinds_
 use Rattle.gds_law.specs.declared.kind.FaultKind.{FaultKind}
 use Rattle.gds_law.specs.declared.kind.FaultKind.TheVariants.{BadVersion, TransactionTooNew, UsedTooSmall, UsedTooLarge}
 use Rattle.gds_law.specs.declared.kind.FaultKind.TheVariants.{RootAtLevelZero, WrongLevel, EmptyBlock}
-use Rattle.gds_pack.specs.Packed.{packed_size, records_size}
 use Rattle.gds_sound.proofs.BlockLemmas.{through_nil, filter_nil, nil_filter}
 use Rattle.gds_tree.specs.Lawful.{MayBeEmpty}
 use Rattle.gds_tree.specs.RightBlock.{IsStamped, IsDueLevel, HasRightHead}

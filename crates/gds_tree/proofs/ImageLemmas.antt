@@ -1,18 +1,15 @@
 -- The blocks of an image, and those that are right in it.
-use Rattle.std.proofs.Common.{◌≡◌, ℕ, zero, suc, ◌+◌, ◌*◌, ◌-◌, ◌<◌, ◌≤◌, List, [], ◌∷◌, length, take, drop, Option, Some}
-use Rattle.std.proofs.Common.{refl, sym, ap, subst, ◌∙◌, arith}
+use Rattle.std.proofs.Common.{◌≡◌, ℕ, suc, ◌+◌, ◌*◌, ◌<◌, ◌≤◌, List, [], ◌∷◌, length, drop, Option, Some}
+use Rattle.std.proofs.Common.{refl, ap, ◌∙◌, arith}
 use Rattle.std.proofs.Math.Nat.{mul-le-mul_right}
 use Rattle.std.proofs.lemmas.List.{length-take, length-drop}
-use Rattle.gds_block.specs.Block.{level_of}
 use Rattle.gds_block.specs.Item.{Item}
-use Rattle.gds_header.specs.declared.header.Header.{Header}
-use Rattle.gds_header.specs.Fields.{fields_of, place_of, image_length, block_of}
-use Rattle.gds_law.specs.Visit.{Visit, Child}
+use Rattle.gds_header.specs.Fields.{fields_of, place_of, block_of}
+use Rattle.gds_law.specs.Visit.{Visit}
 use Rattle.gds_law.specs.Path.{children_at}
-use Rattle.gds_sound.specs.Sound.{Tree, forest_of, items_at, sound_tree, tree_at}
+use Rattle.gds_sound.specs.Sound.{Tree, forest_of, items_at, sound_tree}
 use Rattle.gds_sound.proofs.BlockLemmas.{kinds_at, level_at}
-use Rattle.gds_sound.proofs.TreeLemmas.{tree_level, tree_clean, own_level}
-use Rattle.gds_tree.specs.RightBlock.{IsRightBlock}
+use Rattle.gds_sound.proofs.TreeLemmas.{tree_level, tree_clean}
 use Rattle.gds_tree.specs.Below.{visit_below, index_children, children_by, both, trees_below}
 use Rattle.gds_tree.specs.Below.{HasEntries}
 use Rattle.gds_pack.specs.Packed.{record_size}

@@ -1,16 +1,16 @@
 -- The same of an index block.
-use Rattle.std.proofs.Common.{◌≡◌, ℕ, zero, suc, ◌+◌, ◌-◌, ◌<◌, ◌≤◌, ◌==◌, Bool, true, false, not, ◌&&◌, List, [], ◌∷◌}
-use Rattle.std.proofs.Common.{◌++◌, length, map, if◌then◌else◌, Option, None, Some, ◌⊎◌, inl, inr, refl, sym, ap, subst}
+use Rattle.std.proofs.Common.{◌≡◌, ℕ, suc, ◌+◌, ◌-◌, ◌<◌, ◌≤◌, ◌==◌, true, false, not, ◌&&◌, List, [], ◌∷◌}
+use Rattle.std.proofs.Common.{◌++◌, length, if◌then◌else◌, Option, None, Some, ◌⊎◌, inl, inr, refl, sym, ap}
 use Rattle.std.proofs.Common.{◌∙◌, arith}
 use Rattle.std.specs.Prelude.{◌^◌, nat_lt}
 use Rattle.std.proofs.lemmas.Bool.{cond-true, cond-false, eq-eqb, ne_eqb, lt-ltb, and_from, and_right}
 use Rattle.gds_block.specs.Fields.{u32_at}
 use Rattle.gds_block.specs.Item.{Item}
 use Rattle.gds_block.specs.Record.{Record, bytes_left}
-use Rattle.gds_law.specs.Visit.{TreeRole, directory, global, Visit, Child}
-use Rattle.gds_law.specs.BlockReading.{BlockReading, PlacedRecord, is_first, is_last, size_of, key_of, rest_of, points}
+use Rattle.gds_law.specs.Visit.{TreeRole, directory, global, Visit}
+use Rattle.gds_law.specs.BlockReading.{BlockReading, PlacedRecord, is_last, size_of, key_of, rest_of, points}
 use Rattle.gds_law.specs.BlockReading.{has_values, pointer_of}
-use Rattle.gds_law.specs.Record.{is_ended, is_sound, low_of, high_of, target_of, child_to, children_of_record}
+use Rattle.gds_law.specs.Record.{is_sound, low_of, high_of, target_of, child_to, children_of_record}
 use Rattle.gds_law.specs.Block.{kinds_from, children_from}
 use Rattle.gds_pack.specs.Packed.{record_size, records_size, packed_record, packed_records}
 use Rattle.gds_pack.specs.Packable.{IsNext, AreIndex}

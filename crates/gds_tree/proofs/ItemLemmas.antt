@@ -1,28 +1,27 @@
 -- The items of a sound tree are lawful entries of one level-0 block at its visit.
-use Rattle.std.proofs.Common.{◌≡◌, ℕ, zero, suc, ◌+◌, ◌<◌, ◌≤◌, List, [], ◌∷◌, ◌++◌, length, Option, None, Some, Less, inl, inr}
-use Rattle.std.proofs.Common.{refl, sym, ap, subst, ◌∙◌, arith, append-nil}
+use Rattle.std.proofs.Common.{◌≡◌, ℕ, zero, suc, ◌<◌, List, [], ◌∷◌, ◌++◌, Option, None, Some, inl}
+use Rattle.std.proofs.Common.{refl, sym, ap, subst, ◌∙◌, append-nil}
 use Rattle.std.specs.Prelude.{⊤}
 use Rattle.std.specs.List.{AllByRecursion}
-use Rattle.std.proofs.lemmas.List.Elements.{All-from_recursion, recursion_from_All}
-use Rattle.gds_block.specs.Block.{level_of}
+use Rattle.std.proofs.lemmas.List.Elements.{All-from_recursion}
 use Rattle.gds_block.specs.Item.{Item}
 use Rattle.gds_header.specs.declared.header.Header.{Header}
-use Rattle.gds_header.specs.Fields.{fields_of, block_of}
-use Rattle.gds_law.specs.Visit.{TreeRole, directory, global, Visit}
-use Rattle.gds_pack.specs.Packable.{IsNext, AreLeaves, AreIndex, ArePackable}
-use Rattle.gds_sound.specs.Sound.{Tree, joined, sound_tree}
+use Rattle.gds_header.specs.Fields.{fields_of}
+use Rattle.gds_law.specs.Visit.{Visit}
+use Rattle.gds_pack.specs.Packable.{AreLeaves, AreIndex, ArePackable}
+use Rattle.gds_sound.specs.Sound.{Tree, sound_tree}
 use Rattle.gds_sound.proofs.BlockLemmas.{nil_parts}
 use Rattle.m_key.specs.Key.{AtMost, Below}
 use Rattle.gds_tree.specs.Lawful.{IsOfRole, IsAboveLow, IsBelowHigh, IsLawfulRest, IsLawfulKey, IsLawfulEntry}
 use Rattle.gds_tree.specs.Lawful.{MayBeEmpty, IsLawful}
-use Rattle.gds_tree.specs.Below.{high_below, visit_below, both, trees_below, HasEntries}
+use Rattle.gds_tree.specs.Below.{high_below, visit_below, trees_below, HasEntries}
 use Rattle.gds_tree.specs.Keeps.{IsImage}
-use Rattle.gds_tree.proofs.TestLemmas.{below_less, less_below, below_most, most_below, most_from, most_most}
+use Rattle.gds_tree.proofs.TestLemmas.{below_less, less_below, below_most, most_from, most_most}
 use Rattle.gds_tree.proofs.FineLemmas.{some_key}
-use Rattle.gds_tree.proofs.BelowLemmas.{all_both, all_weaker, AreBoth, both_parts}
+use Rattle.gds_tree.proofs.BelowLemmas.{all_both, all_weaker, both_parts}
 use Rattle.gds_tree.proofs.KeepLemmas.{pointers}
 use Rattle.gds_tree.proofs.PartLemmas.{lawful_index}
-use Rattle.gds_tree.proofs.TreeByLemmas.{LeafBy, by_leaf, IndexBy, by_index}
+use Rattle.gds_tree.proofs.TreeByLemmas.{by_leaf, by_index}
 
 -- lawful entries of a level-0 block, and their keys
 pub record AreItems (h : Header) (v : Visit) (items : List Item) : Type 0 where

@@ -1,27 +1,27 @@
 -- Lawful lists of entries that are joined and changed.
-use Rattle.std.proofs.Common.{◌≡◌, ℕ, zero, suc, ◌≤◌, List, [], ◌∷◌, ◌++◌, length, Option, None, Some, Less, inl, inr, refl, sym}
-use Rattle.std.proofs.Common.{ap, subst, ◌∙◌, append_assoc}
-use Rattle.std.specs.Prelude.{⊤, All, ◌≢◌}
+use Rattle.std.proofs.Common.{◌≡◌, ℕ, suc, List, [], ◌∷◌, ◌++◌, length, Option, None, Some, Less, inl, refl, sym}
+use Rattle.std.proofs.Common.{subst, ◌∙◌, append_assoc}
+use Rattle.std.specs.Prelude.{All, ◌≢◌}
 use Rattle.std.specs.List.{AllByRecursion}
 use Rattle.std.proofs.lemmas.List.Elements.{All-from_recursion, recursion_from_All}
 use Rattle.gds_block.specs.Item.{Item}
 use Rattle.gds_header.specs.declared.header.Header.{Header}
 use Rattle.gds_law.specs.Visit.{TreeRole, directory, global, Visit}
 use Rattle.gds_sound.proofs.BlockLemmas.{nil_parts}
-use Rattle.gds_sound.proofs.OrderLemmas.{cmp, cmp_total}
+use Rattle.gds_sound.proofs.OrderLemmas.{cmp}
 use Rattle.m_key.specs.Key.{AtMost, Below}
 use Rattle.m_key.specs.KeyEnd.{IsKey}
 use Rattle.gds_pack.specs.Packed.{key_behind}
-use Rattle.gds_pack.specs.Packable.{IsNext, AreLeaves, AreIndex, ArePackable}
-use Rattle.gds_tree.specs.Lawful.{IsOfRole, IsPointer, IsAboveLow, IsBelowHigh, IsLawfulRest, IsLawfulKey, IsLawfulEntry}
+use Rattle.gds_pack.specs.Packable.{IsNext, AreLeaves, AreIndex}
+use Rattle.gds_tree.specs.Lawful.{IsPointer, IsAboveLow, IsBelowHigh, IsLawfulRest, IsLawfulKey, IsLawfulEntry}
 use Rattle.gds_tree.specs.Lawful.{MayBeEmpty, IsLawful}
 use Rattle.gds_tree.specs.Below.{below_key, from_key, with_key}
-use Rattle.gds_tree.proofs.TestLemmas.{below_less, less_below, most_from, below_most}
+use Rattle.gds_tree.proofs.TestLemmas.{below_less, most_from, below_most}
 use Rattle.gds_tree.proofs.FineLemmas.{some_key}
 use Rattle.gds_tree.proofs.BelowLemmas.{all_left, all_right, all_both, all_weaker}
 use Rattle.gds_tree.proofs.KeepLemmas.{pointers}
 use Rattle.gds_tree.proofs.ItemLemmas.{keys_lawful, leaves_both, below_to_high, above_key}
-use Rattle.gds_tree.proofs.ListLemmas.{Keys, Fours, leaves_left, leaves_right, leaves_join, leaves_less, IsFront, index_front}
+use Rattle.gds_tree.proofs.ListLemmas.{Keys, Fours, leaves_left, leaves_right, leaves_join, leaves_less, index_front}
 use Rattle.gds_tree.proofs.ListLemmas.{index_cons, index_join, nothing_less}
 use Rattle.gds_tree.proofs.LawfulLemmas.{moved, each}
 
@@ -115,8 +115,7 @@ index_joined h v level k a m b l r is_key lawful =
       each = All-from_recursion (IsLawfulEntry h v (suc level)) (a ++ with_key k m ∷ b)
           (all_both (IsLawfulEntry h v (suc level)) a (with_key k m ∷ b)
           (all_moved h c v (suc level) a refl
-          (λ key q. (q.above, below_to_high v.high k key lawful.below q.below)) first)
-          (
+          (λ key q. (q.above, below_to_high v.high k key lawful.below q.below)) first) (
             record { key = λ some. lawful; rest = star.rest },
             all_moved h d v (suc level) b refl (λ key q. (above_on level v.low k key lawful.above q.above, q.below))
                 second,
@@ -252,3 +251,44 @@ elsewhere h v w level es l role low high = record {
       let m = l.none e in
       record { leaf = m.leaf; role = role ∙ m.role; low = low ∙ m.low; high = high ∙ m.high };
 }
+
+-- ---- an entry of an index block that becomes two
+
+lawful_pointer : (h : Header) (role : TreeRole) (level : ℕ) (rest : List ℕ) → IsPointer h rest
+    → IsLawfulRest h role (suc level) rest
+lawful_pointer h directory level rest q = q
+lawful_pointer h (global name) level rest q = q
+
+second_index : (previous key : List ℕ) (e : Item) (right : List ℕ) (b : List Item) → length right ≡ 4
+    → AreIndex previous (e ∷ b) → (e.key ≢ [] → Below key e.key)
+    → AreIndex key (record { key = e.key; rest = right } ∷ b)
+second_index previous key e right [] size index above = (index.0, size)
+second_index previous key e right (g ∷ b) size index above = (
+  record { is_key = index.0.is_key; above = below_less key e.key (above (some_key e.key index.0.is_key)) },
+  size,
+  index.2,
+)
+
+pub entry_parted : (h : Header) (v : Visit) (level : ℕ) (a : List Item) (e : Item) (b : List Item) (key left right : List ℕ)
+    → IsLawful h v (suc level) (a ++ e ∷ b) → IsKey key → IsLawfulKey h v (suc level) key → Below (key_behind [] a) key
+    → (e.key ≢ [] → Below key e.key) → IsPointer h left → IsPointer h right
+    → IsLawful h v (suc level) (a ++ record { key = key; rest = left } ∷ record { key = e.key; rest = right } ∷ b)
+entry_parted h v level a e b key left right l is_key lawful above below first second =
+    let p : Item = record { key = key; rest = left } in
+    let q : Item = record { key = e.key; rest = right } in
+    let front = index_front [] a e b l.packable in
+    let all = each h v (suc level) (a ++ e ∷ b) l in
+    let here = all_right (IsLawfulEntry h v (suc level)) a (e ∷ b) all in
+    let next : IsNext (key_behind [] a) p =
+    record { is_key = is_key; above = below_less (key_behind [] a) key above } in
+    record {
+      packable = index_join [] a (p ∷ q ∷ b) front.leaves front.fours
+          (next, first.size, second_index (key_behind [] a) key e right b second.size front.rest below);
+      each = All-from_recursion (IsLawfulEntry h v (suc level)) (a ++ p ∷ q ∷ b)
+          (all_both (IsLawfulEntry h v (suc level)) a (p ∷ q ∷ b)
+          (all_left (IsLawfulEntry h v (suc level)) a (e ∷ b) all) (
+            record { key = λ some. lawful; rest = lawful_pointer h v.role level left first },
+            (record { key = here.0.key; rest = lawful_pointer h v.role level right second }, here.1),
+          ));
+      none = λ none. absurd (not_empty a p (q ∷ b) none);
+    }

@@ -1,5 +1,5 @@
 -- A sound tree stays sound in an image that keeps its blocks.
-use Rattle.std.proofs.Common.{◌≡◌, ℕ, zero, suc, ◌+◌, ◌<◌, ◌≤◌, List, [], ◌∷◌, ◌++◌, length, Option, None, Some, refl, sym}
+use Rattle.std.proofs.Common.{◌≡◌, ℕ, zero, suc, ◌<◌, ◌≤◌, List, [], ◌∷◌, ◌++◌, length, Option, Some, sym}
 use Rattle.std.proofs.Common.{ap, subst, ◌∙◌, arith}
 use Rattle.std.specs.Prelude.{⊤}
 use Rattle.std.specs.List.{AllByRecursion}
@@ -11,13 +11,13 @@ use Rattle.gds_header.specs.declared.header.Header.{Header}
 use Rattle.gds_header.specs.Fields.{fields_of, block_of}
 use Rattle.gds_law.specs.Visit.{TreeRole, directory, global, Visit}
 use Rattle.gds_pack.specs.Packed.{packed_size}
-use Rattle.gds_sound.specs.Sound.{Tree, joined, sound_tree}
-use Rattle.gds_tree.specs.Lawful.{IsTreeNumber, IsPointer, IsLawfulRest, IsLawfulKey, IsLawfulEntry, IsLawful}
-use Rattle.gds_tree.specs.RightBlock.{IsStamped, HasRightHead, IsRightBlock}
-use Rattle.gds_tree.specs.Below.{visit_below, both, trees_below, HasEntries, leaf_tree, index_tree}
-use Rattle.gds_tree.specs.Keeps.{IsImage, KeepsSizes, RootsBelow, IsWithinTotal}
-use Rattle.gds_tree.proofs.BelowLemmas.{all_left, all_right, AreBoth, both_parts, some_both, first_block}
-use Rattle.gds_tree.proofs.TreeByLemmas.{leaf_by, index_by, LeafBy, by_leaf, IndexBy, by_index}
+use Rattle.gds_sound.specs.Sound.{Tree, sound_tree}
+use Rattle.gds_tree.specs.Lawful.{IsPointer, IsLawfulRest, IsLawfulEntry, IsLawful}
+use Rattle.gds_tree.specs.RightBlock.{IsRightBlock}
+use Rattle.gds_tree.specs.Below.{visit_below, trees_below, HasEntries}
+use Rattle.gds_tree.specs.Keeps.{IsImage, KeepsSizes}
+use Rattle.gds_tree.proofs.BelowLemmas.{all_left, all_right, both_parts, some_both, first_block}
+use Rattle.gds_tree.proofs.TreeByLemmas.{leaf_by, index_by, by_leaf, by_index}
 
 -- ---- a right block under another header
 
@@ -208,3 +208,28 @@ module _ (old new : List ℕ) (a : IsImage old) (b : IsImage new) (sizes : Keeps
       (entries_kept v (suc level) p.es p.has within'.0 kept'.0
       (index_reach (fields_of new).total v.role level p.es below.reach))
       below.trees ∙ ap (λ w. Some w) (sym p.is)
+
+-- ---- entries that are lawful under another header
+
+reaches_more : (h : Header) (total : ℕ) (role : TreeRole) (level : ℕ) (rest : List ℕ) → h.total ≤ total
+    → IsLawfulRest h role level rest → Reaches total role level rest
+reaches_more h total (global name) zero rest more l = tt
+reaches_more h total directory level rest more l = let low = l.leads.within in omega arith
+reaches_more h total (global name) (suc level) rest more l = let low = l.leads.within in omega arith
+
+reach_more : (h : Header) (total : ℕ) (v : Visit) (level : ℕ) (es : List Item) → h.total ≤ total
+    → AllByRecursion (IsLawfulEntry h v level) es → Reach total v.role level es
+reach_more h total v level [] more l = tt
+reach_more h total v level (e ∷ es) more l =
+    (reaches_more h total v.role level e.rest more l.0.rest, reach_more h total v level es more l.1)
+
+pub lawful_kept : (h g : Header) (v : Visit) (level : ℕ) (es : List Item) → SameLimits h g → h.total ≤ g.total
+    → IsLawful h v level es → IsLawful g v level es
+lawful_kept h g v level es same more l =
+    let each = recursion_from_All (IsLawfulEntry h v level) es l.each in
+    record {
+      packable = l.packable;
+      each = All-from_recursion (IsLawfulEntry g v level) es
+          (each_kept h g v level es same each (reach_more h g.total v level es more each));
+      none = l.none;
+    }

@@ -1,7 +1,5 @@
 -- The two laws of kept trees.
-use Rattle.std.proofs.Common.{◌≡◌, ℕ, zero, suc, ◌<◌, ◌≤◌, List, [], ◌∷◌, Some, refl, sym, ap, subst, ◌∙◌, arith}
-use Rattle.std.specs.Prelude.{⊤}
-use Rattle.std.specs.List.{AllByRecursion}
+use Rattle.std.proofs.Common.{◌≡◌, ℕ, ◌<◌, ◌≤◌, List, Some, arith}
 use Rattle.std.proofs.lemmas.List.Elements.{recursion_from_All}
 use Rattle.gds_block.specs.Fields.{u32_at}
 use Rattle.gds_block.specs.Item.{Item}
@@ -10,7 +8,7 @@ use Rattle.gds_law.specs.Visit.{TreeRole, directory, global, Visit}
 use Rattle.gds_sound.specs.Sound.{Tree, sound_tree}
 use Rattle.gds_tree.specs.Keeps.{IsImage, KeepsSizes, KeepsBlocks, RootsBelow, IsWithinTotal}
 use Rattle.gds_tree.proofs.BelowLemmas.{all_weaker}
-use Rattle.gds_tree.proofs.KeepLemmas.{Low, Kept, Roots, tree_kept}
+use Rattle.gds_tree.proofs.KeepLemmas.{Low, Roots, tree_kept}
 use Rattle.gds_tree.proofs.PartLemmas.{low_blocks, rooted}
 
 -- ---- where the total is no smaller

@@ -1,27 +1,22 @@
 -- Lawful lists of entries that are cut, joined and changed.
-use Rattle.std.proofs.Common.{◌≡◌, ℕ, zero, suc, ◌≤◌, List, [], ◌∷◌, ◌++◌, length, Option, None, Some, Less, inl, inr, refl, sym}
-use Rattle.std.proofs.Common.{ap, subst, ◌∙◌}
-use Rattle.std.specs.Prelude.{⊤}
+use Rattle.std.proofs.Common.{◌≡◌, ℕ, zero, suc, List, [], ◌∷◌, ◌++◌, Some, inl, refl}
+use Rattle.std.proofs.Common.{subst}
 use Rattle.std.specs.List.{AllByRecursion}
 use Rattle.std.proofs.lemmas.List.Elements.{All-from_recursion, recursion_from_All}
 use Rattle.gds_block.specs.Item.{Item}
 use Rattle.gds_header.specs.declared.header.Header.{Header}
-use Rattle.gds_law.specs.Visit.{TreeRole, directory, global, Visit}
-use Rattle.gds_sound.proofs.BlockLemmas.{nil_parts}
-use Rattle.m_key.specs.Key.{AtMost, Below}
-use Rattle.m_key.specs.KeyEnd.{IsKey}
-use Rattle.gds_pack.specs.Packed.{key_behind, first_key}
-use Rattle.gds_pack.specs.Packable.{IsNext, AreLeaves, AreIndex, ArePackable}
-use Rattle.gds_tree.specs.Lawful.{IsOfRole, IsPointer, IsAboveLow, IsBelowHigh, IsLawfulRest, IsLawfulKey, IsLawfulEntry}
-use Rattle.gds_tree.specs.Lawful.{MayBeEmpty, IsLawful}
-use Rattle.gds_tree.specs.Below.{below_key, from_key, as_star, with_key}
+use Rattle.gds_law.specs.Visit.{Visit}
+use Rattle.m_key.specs.Key.{Below}
+use Rattle.gds_pack.specs.Packed.{key_behind}
+use Rattle.gds_pack.specs.Packable.{AreLeaves}
+use Rattle.gds_tree.specs.Lawful.{IsOfRole, IsAboveLow, IsBelowHigh, IsLawfulRest, IsLawfulKey, IsLawfulEntry}
+use Rattle.gds_tree.specs.Lawful.{IsLawful}
+use Rattle.gds_tree.specs.Below.{below_key, from_key, as_star}
 use Rattle.gds_tree.proofs.TestLemmas.{below_less, most_from}
-use Rattle.gds_tree.proofs.FineLemmas.{some_key}
 use Rattle.gds_tree.proofs.BelowLemmas.{all_left, all_right, all_both}
 use Rattle.gds_tree.proofs.WidenLemmas.{most_same}
-use Rattle.gds_tree.proofs.ItemLemmas.{AreItems, keys_lawful, leaves_both, below_to_high, above_key}
 use Rattle.gds_tree.proofs.ListLemmas.{Keys, leaves_first, leaves_left, leaves_right, leaves_join, keys_below, keys_above}
-use Rattle.gds_tree.proofs.ListLemmas.{index_first, IsFront, index_front, index_join, KeyedAbove, keyed_above}
+use Rattle.gds_tree.proofs.ListLemmas.{index_first, index_front, index_join, KeyedAbove, keyed_above}
 
 -- ---- one entry at another visit
 

@@ -1,11 +1,10 @@
 -- Packable lists of entries, in parts.
-use Rattle.std.proofs.Common.{◌≡◌, ℕ, zero, suc, List, [], ◌∷◌, ◌++◌, length, Less, refl, sym, ap, subst, ◌∙◌}
-use Rattle.std.specs.Prelude.{⊤}
+use Rattle.std.proofs.Common.{◌≡◌, ℕ, List, [], ◌∷◌, ◌++◌, length, Less, refl}
 use Rattle.std.specs.List.{AllByRecursion}
 use Rattle.gds_block.specs.Item.{Item}
-use Rattle.m_key.specs.Key.{AtMost, Below}
+use Rattle.m_key.specs.Key.{Below}
 use Rattle.m_key.specs.KeyEnd.{IsKey}
-use Rattle.gds_pack.specs.Packed.{key_behind, first_key}
+use Rattle.gds_pack.specs.Packed.{key_behind}
 use Rattle.gds_pack.specs.Packable.{IsNext, AreLeaves, AreIndex}
 use Rattle.gds_sound.proofs.OrderLemmas.{cmp, cmp_total}
 use Rattle.gds_tree.proofs.TestLemmas.{less_from, less_below}

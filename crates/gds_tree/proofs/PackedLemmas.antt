@@ -1,11 +1,10 @@
 -- Records that are read as entries and need no more bytes than these packed are the packed ones.
-use Rattle.std.proofs.Common.{◌≡◌, ℕ, zero, suc, ◌+◌, ◌-◌, ◌<◌, ◌≤◌, ◌==◌, Bool, true, false, ◌&&◌, List, [], ◌∷◌, ◌++◌}
+use Rattle.std.proofs.Common.{◌≡◌, ℕ, zero, suc, ◌+◌, ◌≤◌, ◌==◌, Bool, true, false, ◌&&◌, List, [], ◌∷◌, ◌++◌}
 use Rattle.std.proofs.Common.{length, take, drop, if◌then◌else◌, Option, None, Some, inl, inr, refl, sym, ap, subst, ◌∙◌}
-use Rattle.std.proofs.Common.{arith, append_assoc}
-use Rattle.std.specs.Prelude.{⊤, nat_eq, nat_lt, option_map, option_and_then}
-use Rattle.std.proofs.Math.Numerals.{one-add}
+use Rattle.std.proofs.Common.{arith}
+use Rattle.std.specs.Prelude.{⊤, nat_eq, nat_lt, option_map}
 use Rattle.std.proofs.lemmas.Bool.{cond-true, cond-false, eqb-true, eq-eqb, ltb-true, and_parts, or_cases, cases_Bool}
-use Rattle.std.proofs.lemmas.List.{take-append-drop, drop_at, drop_all, length-append, length-drop, length-take}
+use Rattle.std.proofs.lemmas.List.{take-append-drop, drop_at, length-append, length-drop, length-take}
 use Rattle.std.proofs.lemmas.Option.{cond_some}
 use Rattle.gds_block.specs.Block.{level_of, used_of}
 use Rattle.gds_block.specs.Item.{Item}
@@ -17,12 +16,10 @@ use Rattle.m_key.proofs.KeyEndLemmas.{shared-nil, shared-le, HasOpenFronts-nil, 
 use Rattle.m_key.proofs.KeyEndLemmas.{key_within-le, key_len-within}
 use Rattle.gds_pack.specs.Packed.{record_size, records_size, packed_size, packed_record, packed_records}
 use Rattle.gds_pack.specs.Unpacked.{is_count, leaf_item, index_item, star_item, leaf_items, index_items, end_of, entries_of}
-use Rattle.gds_pack.specs.Unpacked.{IsKeyPart}
 use Rattle.gds_pack.proofs.UnpackLemmas.{IfNone-leaf_item, IfSome-IsKeyPart, leaf_item-unlawful}
 use Rattle.gds_pack.proofs.UnpackLemmas.{HasOpenFronts-leaf_item}
 use Rattle.gds_law.proofs.PathLemmas.{some_if, some_then}
 use Rattle.gds_sound.proofs.TreeLemmas.{some_map}
-use Rattle.gds_tree.proofs.ReadLemmas.{packed_length}
 
 -- ---- the shared bytes of a key that begins as the key before it
 

@@ -1,7 +1,5 @@
 -- What is known of the blocks of a sound tree.
-use Rattle.std.proofs.Common.{◌≡◌, ℕ, zero, suc, ◌<◌, ◌≤◌, List, [], ◌∷◌, ◌++◌, Option, Some, refl, sym, ap, subst, ◌∙◌}
-use Rattle.std.proofs.Common.{arith}
-use Rattle.std.specs.Prelude.{⊤}
+use Rattle.std.proofs.Common.{◌≡◌, ℕ, zero, suc, ◌<◌, List, [], ◌∷◌, ◌++◌, Option, Some, refl, sym, subst}
 use Rattle.std.specs.List.{AllByRecursion}
 use Rattle.std.proofs.lemmas.List.Elements.{recursion_from_All}
 use Rattle.gds_block.specs.Block.{level_of}
@@ -9,13 +7,13 @@ use Rattle.gds_block.specs.Fields.{u32_at}
 use Rattle.gds_block.specs.Item.{Item}
 use Rattle.gds_header.specs.Fields.{fields_of, block_of}
 use Rattle.gds_law.specs.Visit.{TreeRole, directory, global, Visit}
-use Rattle.gds_sound.specs.Sound.{Tree, joined, sound_tree}
+use Rattle.gds_sound.specs.Sound.{Tree, sound_tree}
 use Rattle.gds_tree.specs.Lawful.{IsTreeNumber, IsLawfulRest, IsLawfulEntry}
-use Rattle.gds_tree.specs.Below.{visit_below, both, trees_below, HasEntries}
+use Rattle.gds_tree.specs.Below.{visit_below, trees_below, HasEntries}
 use Rattle.gds_tree.specs.Keeps.{IsImage}
-use Rattle.gds_tree.proofs.BelowLemmas.{all_both, all_weaker, AreBoth, both_parts}
+use Rattle.gds_tree.proofs.BelowLemmas.{all_both, all_weaker, both_parts}
 use Rattle.gds_tree.proofs.KeepLemmas.{Roots, pointers}
-use Rattle.gds_tree.proofs.TreeByLemmas.{LeafBy, by_leaf, IndexBy, by_index}
+use Rattle.gds_tree.proofs.TreeByLemmas.{by_leaf, by_index}
 
 -- the lawful entries of an index block, by its level
 pub lawful_index : (image : List ℕ) (v : Visit) (level : ℕ) (es : List Item) → HasEntries image v level es
@@ -54,9 +52,11 @@ module _ (image : List ℕ) (i : IsImage image) where
       subst (λ (w : Tree). Numbered w.blocks) (sym p.is) (n, tt)
   numbered (suc level) v t n h =
       let p = by_index image v level t i n.within h in
-      subst (λ (w : Tree). Numbered w.blocks) (sym p.is)
-      (n, below_numbered v level v.low p.es p.below (numbered level) (lawful_index image v (suc level) p.es p.has)
-      p.trees)
+      subst (λ (w : Tree). Numbered w.blocks) (sym p.is) (
+        n,
+        below_numbered v level v.low p.es p.below (numbered level) (lawful_index image v (suc level) p.es p.has)
+            p.trees,
+      )
 
   -- They are below the total also where only that is known of the root's block.
   pub low_blocks : (level : ℕ) (v : Visit) (t : Tree) → v.block < (fields_of image).total
@@ -68,9 +68,11 @@ module _ (image : List ℕ) (i : IsImage image) where
       let p = by_index image v level t i low h in
       let below = below_numbered v level v.low p.es p.below (numbered level)
       (lawful_index image v (suc level) p.es p.has) p.trees in
-      subst (λ (w : Tree). AllByRecursion (λ n. n < (fields_of image).total) w.blocks) (sym p.is)
-      (low, all_weaker (IsTreeNumber (fields_of image).total) (λ n. n < (fields_of image).total) p.below.blocks
-      (λ n k. k.within) below)
+      subst (λ (w : Tree). AllByRecursion (λ n. n < (fields_of image).total) w.blocks) (sym p.is) (
+        low,
+        all_weaker (IsTreeNumber (fields_of image).total) (λ n. n < (fields_of image).total) p.below.blocks
+            (λ n k. k.within) below,
+      )
 
   -- the roots that a directory names are below the total too
   abbrev RootedAt : ℕ → Type 0

@@ -1,27 +1,25 @@
 -- The records of a block with which nothing is wrong are those of lawful entries, which fill its used bytes.
-use Rattle.std.proofs.Common.{◌≡◌, ℕ, zero, suc, ◌+◌, ◌-◌, ◌<◌, ◌≤◌, ◌==◌, Bool, true, false, not, ◌&&◌, ◌||◌, List, []}
-use Rattle.std.proofs.Common.{◌∷◌, ◌++◌, length, map, take, drop, if◌then◌else◌, Option, None, Some, inl, inr, refl, sym}
-use Rattle.std.proofs.Common.{ap, subst, ◌∙◌, arith}
-use Rattle.std.specs.Prelude.{⊤, nat_lt, nat_le, nat_eq, IsTrue, is_none}
+use Rattle.std.proofs.Common.{◌≡◌, ℕ, ◌+◌, ◌<◌, ◌≤◌, ◌==◌, Bool, true, false, ◌&&◌, ◌||◌, List, []}
+use Rattle.std.proofs.Common.{◌∷◌, length, map, take, drop, if◌then◌else◌, inl, inr, refl, sym}
+use Rattle.std.proofs.Common.{ap, ◌∙◌, arith}
+use Rattle.std.specs.Prelude.{nat_lt, nat_le, IsTrue}
 use Rattle.std.specs.List.{AllByRecursion}
-use Rattle.std.proofs.lemmas.Bool.{cond-true, cond-false, not-false, eqb-true, eqb-false, eq-eqb, ne_eqb, ltb-true}
-use Rattle.std.proofs.lemmas.Bool.{ltb-false, lt-ltb, le-leb, leb-true, and_parts, and_from, or_parts, cases_Bool}
-use Rattle.std.proofs.lemmas.Bool.{true≢false, and_left, and_cases}
-use Rattle.std.proofs.lemmas.List.{length-append, length-drop, length-take, length-take-le, drop-drop}
-use Rattle.gds_block.specs.Block.{level_of, used_of}
+use Rattle.std.proofs.lemmas.Bool.{cond-true, cond-false, eqb-true, eqb-false, eq-eqb}
+use Rattle.std.proofs.lemmas.Bool.{ltb-false, lt-ltb, le-leb, and_parts, and_from, or_parts, cases_Bool}
+use Rattle.std.proofs.lemmas.List.{length-append, length-drop, length-take-le, drop-drop}
+use Rattle.gds_block.specs.Block.{used_of}
 use Rattle.gds_block.specs.Item.{Item}
 use Rattle.gds_block.specs.Record.{Record, AreRecords, bytes_left, is_well_sized, least_size, first_record}
 use Rattle.gds_block.specs.Record as block
-use Rattle.gds_block.proofs.RecordLemmas.{Fits, Fits-from_well_sized}
-use Rattle.gds_law.specs.Visit.{TreeRole, directory, global, Visit}
-use Rattle.gds_law.specs.BlockReading.{BlockReading, PlacedRecord, is_last, size_of, key_of, rest_of, has_values, points}
+use Rattle.gds_block.proofs.RecordLemmas.{Fits-from_well_sized}
+use Rattle.gds_law.specs.BlockReading.{BlockReading, PlacedRecord, is_last, size_of, key_of}
 use Rattle.gds_law.specs.Record.{kinds_of, is_ended}
 use Rattle.gds_law.specs.Block.{size_kinds, kinds_from}
 use Rattle.gds_law.specs.declared.kind.FaultKind.{FaultKind}
 use Rattle.gds_law.specs.declared.kind.FaultKind.TheVariants.{RecordTooSmall, RecordTooLarge}
 use Rattle.gds_pack.specs.Packed.{record_size, records_size, packed_record, packed_records}
 use Rattle.gds_pack.specs.Packable.{IsNext, AreLeaves, AreIndex}
-use Rattle.gds_sound.proofs.BlockLemmas.{nil_parts, map_nil, seen, IsCleanRecord, clean_record, not_last}
+use Rattle.gds_sound.proofs.BlockLemmas.{nil_parts, map_nil, seen, clean_record, not_last}
 use Rattle.gds_tree.specs.Lawful.{IsLawfulEntry}
 use Rattle.gds_tree.proofs.EntryLemmas.{entry_at, record_is, next_is, lawful_entry, rest_size, star_at, star_is, star_size}
 use Rattle.gds_tree.proofs.EntryLemmas.{lawful_star}

@@ -1,35 +1,31 @@
 -- A sound tree whose blocks get other numbers.
-use Rattle.std.proofs.Common.{◌≡◌, ℕ, zero, suc, ◌+◌, ◌-◌, ◌^◌, ◌<◌, ◌≤◌, ◌==◌, Bool, true, false, List, [], ◌∷◌, ◌++◌, length}
-use Rattle.std.proofs.Common.{map, Option, None, Some, option_map, if◌then◌else◌, inl, inr, refl, sym, ap, subst, ◌∙◌, arith, append-nil}
-use Rattle.std.specs.Prelude.{⊤, nat_eq, All}
+use Rattle.std.proofs.Common.{◌≡◌, ℕ, zero, suc, ◌+◌, ◌^◌, ◌<◌, ◌≤◌, ◌==◌, List, [], ◌∷◌, ◌++◌, length}
+use Rattle.std.proofs.Common.{map, Option, Some, option_map, if◌then◌else◌, refl, sym, ap, subst, ◌∙◌, arith, append-nil}
+use Rattle.std.specs.Prelude.{All}
 use Rattle.std.specs.List.{AllByRecursion}
 use Rattle.std.proofs.lemmas.Bool.{cond_both}
 use Rattle.std.proofs.lemmas.List.{map-append}
 use Rattle.std.proofs.lemmas.List.Elements.{All-from_recursion, recursion_from_All}
-use Rattle.gds_block.specs.Block.{level_of, used_of}
+use Rattle.gds_block.specs.Block.{level_of}
 use Rattle.gds_block.specs.Fields.{u32_at, u32_bytes}
 use Rattle.gds_block.specs.Item.{Item}
 use Rattle.gds_block.proofs.FieldLemmas.{length-u32_bytes, u32_at-here}
-use Rattle.gds_header.specs.declared.header.Header.{Header}
 use Rattle.gds_header.specs.Fields.{fields_of, block_of}
-use Rattle.gds_header.specs.Kinds.{IsWithinLimits}
 use Rattle.gds_law.specs.Visit.{TreeRole, directory, global, Visit}
-use Rattle.m_key.specs.KeyEnd.{shared}
-use Rattle.gds_pack.specs.Packed.{record_size, records_size, packed_size}
+use Rattle.gds_pack.specs.Packed.{records_size, packed_size}
 use Rattle.gds_pack.specs.Packable.{IsNext, AreLeaves, AreIndex, ArePackable}
-use Rattle.gds_pack.specs.Unpacked.{entries_of}
 use Rattle.gds_sound.specs.Sound.{Tree, joined, sound_tree}
-use Rattle.gds_tree.specs.Lawful.{IsTreeNumber, IsPointer, IsLawfulRest, IsLawfulKey, IsLawfulEntry, MayBeEmpty, IsLawful}
-use Rattle.gds_tree.specs.RightBlock.{IsDueLevel, IsStamped, HasRightHead, IsRightBlock}
-use Rattle.gds_tree.specs.Below.{high_below, visit_below, both, trees_below, HasEntries, leaf_tree, index_tree}
+use Rattle.gds_tree.specs.Lawful.{IsTreeNumber, IsPointer, IsLawfulRest, IsLawfulKey, IsLawfulEntry, IsLawful}
+use Rattle.gds_tree.specs.RightBlock.{IsDueLevel}
+use Rattle.gds_tree.specs.Below.{high_below, visit_below, trees_below, HasEntries}
 use Rattle.gds_tree.specs.Keeps.{IsImage, KeepsSizes}
 use Rattle.gds_tree.specs.Renumber.{exchanged, renumbered, renumbered_entries, renumbered_visit, renumbered_tree}
 use Rattle.gds_tree.specs.Renumber.{IsRenumbered, KeepsNumbers}
-use Rattle.gds_tree.proofs.BelowLemmas.{all_left, all_right, AreBoth, both_parts, some_both}
+use Rattle.gds_tree.proofs.BelowLemmas.{all_left, all_right, both_parts, some_both}
 use Rattle.gds_tree.proofs.KeepLemmas.{pointers}
 use Rattle.gds_tree.proofs.JoinLemmas.{elsewhere}
 use Rattle.gds_tree.proofs.PartLemmas.{lawful_index}
-use Rattle.gds_tree.proofs.TreeByLemmas.{leaf_by, index_by, LeafBy, by_leaf, IndexBy, by_index}
+use Rattle.gds_tree.proofs.TreeByLemmas.{leaf_by, index_by, by_leaf, by_index}
 
 -- ---- one pointer
 

@@ -1,7 +1,6 @@
 -- Some entries of an index block are replaced by others.
-use Rattle.std.proofs.Common.{◌≡◌, ℕ, zero, suc, ◌<◌, ◌≤◌, List, [], ◌∷◌, ◌++◌, Option, None, Some, Less, ◌⊎◌, inl, inr, refl, sym}
-use Rattle.std.proofs.Common.{ap, subst, ◌∙◌, arith, append-nil, append_assoc}
-use Rattle.std.specs.Prelude.{⊤, ◌≢◌}
+use Rattle.std.proofs.Common.{◌≡◌, ℕ, suc, ◌<◌, ◌≤◌, List, [], ◌∷◌, ◌++◌, Option, None, Some, Less, ◌⊎◌, inl, inr, refl, sym}
+use Rattle.std.proofs.Common.{ap, subst, ◌∙◌, append_assoc}
 use Rattle.std.specs.List.{AllByRecursion}
 use Rattle.std.proofs.lemmas.List.Elements.{recursion_from_All}
 use Rattle.gds_block.specs.Item.{Item}
@@ -14,13 +13,13 @@ use Rattle.gds_sound.proofs.OrderLemmas.{cmp}
 use Rattle.m_key.specs.Key.{AtMost}
 use Rattle.m_key.specs.KeyEnd.{IsKey}
 use Rattle.gds_tree.specs.Lawful.{IsTreeNumber, IsLawfulEntry}
-use Rattle.gds_tree.specs.Below.{low_behind, both, trees_below, HasEntries, index_tree}
+use Rattle.gds_tree.specs.Below.{low_behind, trees_below, HasEntries, index_tree}
 use Rattle.gds_tree.specs.Keeps.{IsImage, KeepsSizes, KeepsBlocks, IsLowerLow, IsHigherHigh}
 use Rattle.gds_tree.specs.Around.{around}
 use Rattle.gds_tree.proofs.TestLemmas.{below_less, most_from, most_cases, most_most}
 use Rattle.gds_tree.proofs.FineLemmas.{some_key}
 use Rattle.gds_tree.proofs.BelowLemmas.{all_left, all_right, all_weaker, some_both, below_append, low_append}
-use Rattle.gds_tree.proofs.KeepLemmas.{tree_kept, BelowKept, below_kept}
+use Rattle.gds_tree.proofs.KeepLemmas.{tree_kept, below_kept}
 use Rattle.gds_tree.proofs.KeptTreeLemmas.{low_more, roots_more}
 use Rattle.gds_tree.proofs.PartLemmas.{lawful_index, numbered, below_numbered, rooted, below_rooted}
 use Rattle.gds_tree.proofs.WidenLemmas.{most_same, widened, below_widened}

@@ -1,6 +1,6 @@
 -- A block with which nothing is wrong is right, with lawful entries.
-use Rattle.std.proofs.Common.{◌≡◌, ℕ, zero, suc, ◌+◌, ◌-◌, ◌<◌, ◌≤◌, ◌==◌, true, false, List, [], ◌∷◌, length, take, drop}
-use Rattle.std.proofs.Common.{if◌then◌else◌, Option, Some, inl, inr, refl, sym, ap, subst, ◌∙◌, arith}
+use Rattle.std.proofs.Common.{◌≡◌, ℕ, zero, suc, ◌+◌, ◌<◌, ◌≤◌, ◌==◌, false, List, [], length, take}
+use Rattle.std.proofs.Common.{if◌then◌else◌, Some, inl, inr, refl, sym, ap, subst, ◌∙◌, arith}
 use Rattle.std.specs.Prelude.{nat_eq}
 use Rattle.std.proofs.lemmas.Bool.{cond-true, eq-eqb, ne_eqb, eqb-false, cases_eq}
 use Rattle.std.proofs.lemmas.List.{length-drop, length-take}
@@ -14,11 +14,11 @@ use Rattle.gds_law.specs.Visit.{Visit}
 use Rattle.gds_law.specs.BlockReading.{BlockReading, reading_of}
 use Rattle.gds_law.specs.Block.{kinds_of_block}
 use Rattle.gds_pack.specs.Packed.{records_size, packed_size, packed_records}
-use Rattle.gds_pack.specs.Packable.{AreLeaves, AreIndex, ArePackable}
+use Rattle.gds_pack.specs.Packable.{ArePackable}
 use Rattle.gds_pack.specs.Unpacked.{leaf_items, index_items, end_of, entries_of}
 use Rattle.gds_pack.proofs.ReadLemmas.{items-packed, end_of-packed}
-use Rattle.gds_tree.specs.Lawful.{IsLawfulEntry, MayBeEmpty, IsLawful}
-use Rattle.gds_tree.specs.RightBlock.{HasRightHead, IsRightBlock}
+use Rattle.gds_tree.specs.Lawful.{IsLawfulEntry}
+use Rattle.gds_tree.specs.RightBlock.{IsRightBlock}
 use Rattle.gds_tree.proofs.UsedLemmas.{none_parts}
 use Rattle.gds_tree.proofs.ReadLemmas.{AreEntries, leaf_read, index_read}
 use Rattle.gds_tree.proofs.HeadLemmas.{used_least, used_most, head_right, empty_only}

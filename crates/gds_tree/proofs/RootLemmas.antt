@@ -1,23 +1,22 @@
 -- A root that is collapsed, and the trees below entries at other visits.
-use Rattle.std.proofs.Common.{◌≡◌, ℕ, zero, suc, ◌<◌, ◌≤◌, List, [], ◌∷◌, ◌++◌, drop, Option, None, Some, refl, sym, ap, subst}
+use Rattle.std.proofs.Common.{◌≡◌, ℕ, suc, ◌≤◌, List, [], ◌∷◌, ◌++◌, drop, Option, Some, refl, sym, ap, subst}
 use Rattle.std.proofs.Common.{◌∙◌}
-use Rattle.std.specs.List.{AllByRecursion}
 use Rattle.gds_block.specs.Fields.{u32_at}
 use Rattle.gds_block.specs.Item.{Item}
 use Rattle.gds_header.specs.Fields.{fields_of, block_of}
 use Rattle.gds_law.specs.Visit.{Visit}
-use Rattle.gds_pack.specs.Packable.{IsNext, AreIndex}
+use Rattle.gds_pack.specs.Packable.{AreIndex}
 use Rattle.gds_pack.specs.Unpacked.{entries_of}
 use Rattle.gds_sound.specs.Sound.{Tree, joined, sound_tree}
 use Rattle.gds_tree.specs.Below.{as_star, high_below, visit_below, both, trees_below, HasEntries, index_tree}
 use Rattle.gds_tree.specs.Keeps.{IsImage, KeepsSizes, KeepsBlocks}
 use Rattle.gds_tree.proofs.FineLemmas.{some_key}
-use Rattle.gds_tree.proofs.BelowLemmas.{AreBoth, both_parts, joined_none}
+use Rattle.gds_tree.proofs.BelowLemmas.{both_parts, joined_none}
 use Rattle.gds_tree.proofs.KeepLemmas.{pointers}
 use Rattle.gds_tree.proofs.PartLemmas.{lawful_index}
 use Rattle.gds_tree.proofs.ItemLemmas.{packable}
 use Rattle.gds_tree.proofs.ReplaceLemmas.{forest_grown}
-use Rattle.gds_tree.proofs.TreeByLemmas.{index_by, IndexBy, by_index}
+use Rattle.gds_tree.proofs.TreeByLemmas.{index_by, by_index}
 
 -- ---- other visits of one role and one upper bound
 

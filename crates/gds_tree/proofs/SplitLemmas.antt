@@ -1,8 +1,7 @@
 -- An index block in two pieces, and a root that is split.
-use Rattle.std.proofs.Common.{◌≡◌, ℕ, zero, suc, ◌<◌, ◌≤◌, List, [], ◌∷◌, ◌++◌, drop, Option, None, Some, refl, sym, ap, subst}
+use Rattle.std.proofs.Common.{◌≡◌, ℕ, suc, ◌≤◌, List, [], ◌∷◌, ◌++◌, drop, Some, refl, sym, ap, subst}
 use Rattle.std.proofs.Common.{◌∙◌, append_assoc}
 use Rattle.std.specs.List.{AllByRecursion}
-use Rattle.std.proofs.lemmas.List.Elements.{recursion_from_All, All-from_recursion}
 use Rattle.gds_block.specs.Item.{Item}
 use Rattle.gds_header.specs.Fields.{fields_of, block_of}
 use Rattle.gds_law.specs.Visit.{Visit}
@@ -11,31 +10,19 @@ use Rattle.gds_pack.specs.Unpacked.{entries_of}
 use Rattle.gds_sound.specs.Sound.{Tree, joined, sound_tree}
 use Rattle.m_key.specs.KeyEnd.{IsKey}
 use Rattle.gds_tree.specs.Lawful.{IsLawfulEntry}
-use Rattle.gds_tree.specs.Below.{as_star, high_below, low_behind, visit_below, both, trees_below, HasEntries, index_tree}
+use Rattle.gds_tree.specs.Below.{as_star, high_below, low_behind, visit_below, both, trees_below, HasEntries}
+use Rattle.gds_tree.specs.Below.{index_tree}
 use Rattle.gds_tree.specs.Keeps.{IsImage, KeepsSizes, KeepsBlocks}
 use Rattle.gds_tree.specs.Split.{PartsAt, InTwoPieces}
+use Rattle.gds_tree.proofs.AroundLemmas.{kept_left, kept_right}
 use Rattle.gds_tree.proofs.FineLemmas.{some_key}
-use Rattle.gds_tree.proofs.BelowLemmas.{all_left, all_right, AreBoth, both_parts, some_both, below_append, low_append, joined_none}
+use Rattle.gds_tree.proofs.BelowLemmas.{all_left, all_right, both_parts, some_both, below_append, low_append}
+use Rattle.gds_tree.proofs.BelowLemmas.{joined_none}
 use Rattle.gds_tree.proofs.PartLemmas.{lawful_index}
 use Rattle.gds_tree.proofs.ItemLemmas.{packable}
 use Rattle.gds_tree.proofs.ReplaceLemmas.{forest_grown}
 use Rattle.gds_tree.proofs.RootLemmas.{same_entries, same_below, high_key, front_below}
-use Rattle.gds_tree.proofs.TreeByLemmas.{index_by, IndexBy, by_index}
-
--- ---- blocks that are kept, in parts
-
-abbrev IsKept : List ℕ → List ℕ → ℕ → Type 0
-IsKept old new n = block_of new n ≡ block_of old n
-
-kept_left : (old new : List ℕ) (xs ys : List ℕ) → KeepsBlocks old new (xs ++ ys) → KeepsBlocks old new xs
-kept_left old new xs ys h =
-    All-from_recursion (IsKept old new) xs
-    (all_left (IsKept old new) xs ys (recursion_from_All (IsKept old new) (xs ++ ys) h))
-
-kept_right : (old new : List ℕ) (xs ys : List ℕ) → KeepsBlocks old new (xs ++ ys) → KeepsBlocks old new ys
-kept_right old new xs ys h =
-    All-from_recursion (IsKept old new) ys
-    (all_right (IsKept old new) xs ys (recursion_from_All (IsKept old new) (xs ++ ys) h))
+use Rattle.gds_tree.proofs.TreeByLemmas.{index_by, by_index}
 
 -- ---- the two pieces
 
@@ -150,5 +137,5 @@ module _ (old new : List ℕ) (v : Visit) (level : ℕ) (a : List Item) (m f : I
           two.behind,
           two.whole,
           index_by new v (suc level) (p ∷ q ∷ []) (joined x y) j now
-          (trees ∙ ap (λ w. Some (joined x w)) (joined_none y)),
+              (trees ∙ ap (λ w. Some (joined x w)) (joined_none y)),
         )

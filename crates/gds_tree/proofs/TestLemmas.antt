@@ -1,13 +1,12 @@
 -- The tests by which faults are told, and the words by which keys, rests and pointers are lawful: one from the other.
-use Rattle.std.proofs.Common.{◌≡◌, ℕ, zero, suc, ◌+◌, ◌%◌, ◌<◌, ◌≤◌, ◌==◌, Bool, true, false, not, ◌&&◌, ◌||◌, List, []}
-use Rattle.std.proofs.Common.{◌∷◌, length, Option, None, Some, Ordering, Less, Equal, Greater, nat_cmp, is_lt, inl, inr}
+use Rattle.std.proofs.Common.{◌≡◌, ℕ, zero, suc, ◌%◌, ◌≤◌, ◌==◌, true, false, not, ◌&&◌, ◌||◌, List}
+use Rattle.std.proofs.Common.{length, Option, None, Some, Ordering, Less, Equal, Greater, is_lt, inl, inr}
 use Rattle.std.proofs.Common.{◌⊎◌, refl, sym, ap, subst, ◌∙◌, arith}
-use Rattle.std.specs.Prelude.{◌^◌, nat_lt, nat_le, is_none, bytes_eq}
+use Rattle.std.specs.Prelude.{nat_lt, nat_le, is_none, bytes_eq}
 use Rattle.std.specs.Ordering.{is_le, ordering_reverse}
-use Rattle.std.specs.Cmp.Lexicographic.{slice_cmp}
-use Rattle.std.proofs.lemmas.Bool.{not-false, eqb-true, eqb-false, eq-eqb, ne_eqb, lt-ltb, le-ltb, ltb-true, ltb-false}
-use Rattle.std.proofs.lemmas.Bool.{le-leb, lt-leb, leb-true, and_left, and_right, and_parts, and_from, and_cases, or_parts}
-use Rattle.std.proofs.lemmas.Bool.{or_from, not_from_false, not_from_true, cond-true, cond-false, true≢false, not-true}
+use Rattle.std.proofs.lemmas.Bool.{not-false, eqb-false, ne_eqb, lt-ltb, ltb-true, ltb-false}
+use Rattle.std.proofs.lemmas.Bool.{lt-leb, and_left, and_right, and_parts, and_from, or_parts}
+use Rattle.std.proofs.lemmas.Bool.{or_from, not_from_false, true≢false, not-true}
 use Rattle.std.proofs.lemmas.Bool.{false_from_ne_true}
 use Rattle.std.proofs.lemmas.Cmp.{tied_itself}
 use Rattle.std.proofs.lemmas.List.{nil_from_length}
@@ -15,7 +14,7 @@ use Rattle.std.proofs.lemmas.Slice.Eq.{bytes_eq-Decides}
 use Rattle.m_key.specs.Key.{AtMost, Below}
 use Rattle.m_key.specs.KeyParts.{name_part, subscript_parts}
 use Rattle.gds_law.specs.Key.{key_fault}
-use Rattle.gds_law.specs.Visit.{TreeRole, directory, global, Visit}
+use Rattle.gds_law.specs.Visit.{TreeRole, directory, global}
 use Rattle.gds_law.specs.BlockReading.{BlockReading}
 use Rattle.gds_law.specs.Record.{is_below, is_directory, is_other_global, is_above_bound, is_below_bound, is_sound}
 use Rattle.gds_sound.proofs.OrderLemmas.{cmp, cmp_total, cmp_exact}

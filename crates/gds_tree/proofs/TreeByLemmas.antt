@@ -1,12 +1,11 @@
 -- A sound tree, by the entries of its root's block.
-use Rattle.std.proofs.Common.{◌≡◌, ℕ, zero, suc, ◌<◌, List, [], ◌∷◌, Option, Some, option_map, refl, sym, ap, subst, ◌∙◌}
+use Rattle.std.proofs.Common.{◌≡◌, ℕ, suc, ◌<◌, List, [], Some, option_map, refl, sym, ap, ◌∙◌}
 use Rattle.std.proofs.lemmas.Bool.{cond-true}
 use Rattle.gds_block.specs.Item.{Item}
-use Rattle.gds_header.specs.Fields.{fields_of, block_of}
+use Rattle.gds_header.specs.Fields.{fields_of}
 use Rattle.gds_law.specs.Visit.{Visit}
-use Rattle.gds_law.specs.Path.{children_at}
-use Rattle.gds_sound.specs.Sound.{Tree, joined, forest_of, is_faultless, items_at, sound_tree}
-use Rattle.gds_sound.proofs.TreeLemmas.{faultless_from, IsLeaf, leaf_parts, root_only, IsIndex, index_parts}
+use Rattle.gds_sound.specs.Sound.{Tree, joined, forest_of, is_faultless, sound_tree}
+use Rattle.gds_sound.proofs.TreeLemmas.{faultless_from, leaf_parts, root_only, index_parts}
 use Rattle.gds_tree.specs.Below.{trees_below, HasEntries, leaf_tree, index_tree}
 use Rattle.gds_tree.specs.Keeps.{IsImage}
 use Rattle.gds_tree.proofs.ImageLemmas.{tree_entries, has_none, has_children, has_items, forest_below}

@@ -1,10 +1,9 @@
 -- What is read of a block depends on its level, its used count and its used bytes alone, but for how it is stamped.
-use Rattle.std.proofs.Common.{◌≡◌, ℕ, zero, suc, ◌+◌, ◌-◌, ◌<◌, ◌≤◌, ◌==◌, Bool, true, false, not, ◌&&◌, ◌||◌}
-use Rattle.std.proofs.Common.{if◌then◌else◌, List, [], ◌∷◌, ◌++◌, length, map, filter, drop, take, inl, inr, refl, sym}
-use Rattle.std.proofs.Common.{ap, subst, ◌∙◌, arith, None}
-use Rattle.std.specs.Prelude.{nat_lt, nat_le}
+use Rattle.std.proofs.Common.{◌≡◌, ℕ, zero, suc, ◌+◌, ◌-◌, ◌≤◌, ◌==◌, Bool, true, false, not, ◌&&◌, ◌||◌}
+use Rattle.std.proofs.Common.{if◌then◌else◌, List, [], ◌∷◌, ◌++◌, length, map, filter, drop, take, refl, sym}
+use Rattle.std.proofs.Common.{ap, ◌∙◌, arith, None}
 use Rattle.std.specs.List.{list_any, AllByRecursion}
-use Rattle.std.proofs.lemmas.Bool.{cond-false, cases_Bool, and_right, or_from, not_from_true, eq-eqb, lt-leb, cond_both}
+use Rattle.std.proofs.lemmas.Bool.{cond-false, and_right, or_from, not_from_true, eq-eqb, lt-leb}
 use Rattle.std.proofs.lemmas.List.{drop-drop}
 use Rattle.gds_block.specs.Block.{version_of, reserved_of, level_of, used_of, tn_of}
 use Rattle.gds_block.specs.Record.{Record, records_of, records_up_to, records_from, first_record, is_well_sized, bytes_left}
@@ -15,13 +14,12 @@ use Rattle.gds_law.specs.Kinds.{ends, head_kinds}
 use Rattle.gds_law.specs.Visit.{Visit}
 use Rattle.gds_law.specs.BlockReading.{BlockReading, PlacedRecord, reading_of, size_of, key_of}
 use Rattle.gds_law.specs.Record.{kinds_of, is_ended}
-use Rattle.gds_law.specs.Block.{is_wrong_level, head_holds, kinds_of_head, kinds_from, kinds_of_block, children_from}
+use Rattle.gds_law.specs.Block.{head_holds, kinds_of_head, kinds_from, kinds_of_block, children_from}
 use Rattle.gds_law.specs.Block.{children_of, size_kinds}
 use Rattle.gds_law.specs.declared.kind.FaultKind.{FaultKind}
 use Rattle.gds_law.specs.declared.kind.FaultKind.TheVariants.{BadVersion, TransactionTooNew}
 use Rattle.gds_sound.specs.Stands.{items_from, items_of}
 use Rattle.gds_pack.specs.Unpacked.{leaf_items, index_items, end_of, entries_of}
-use Rattle.gds_law.proofs.MembershipLemmas.{IsIn}
 use Rattle.gds_sound.proofs.BlockLemmas.{nil_parts, map_nil, through_nil, filter_nil, nil_filter}
 use Rattle.gds_tree.specs.RightBlock.{UsesSame, IsStamped}
 
@@ -57,8 +55,7 @@ pub head_ends : (b : BlockReading) (x y : List ℕ)
 unfolding kinds_of_head
 head_ends b x y =
     any_through ends (filter (head_holds b x) head_kinds)
-    ∙ any_filtered ends (head_holds b x) (head_holds b y) head_kinds
-    (
+    ∙ any_filtered ends (head_holds b x) (head_holds b y) head_kinds (
       and_right (head_holds b x BadVersion) false refl ∙ sym (and_right (head_holds b y BadVersion) false refl),
       (
         and_right (head_holds b x TransactionTooNew) false refl

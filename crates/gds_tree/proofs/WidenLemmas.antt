@@ -1,25 +1,24 @@
 -- A sound tree is so within wider bounds too.
-use Rattle.std.proofs.Common.{◌≡◌, ℕ, zero, suc, ◌<◌, ◌≤◌, List, [], ◌∷◌, Option, None, Some, Less, ◌⊎◌, inl, inr, refl, sym}
+use Rattle.std.proofs.Common.{◌≡◌, ℕ, zero, suc, ◌<◌, List, [], ◌∷◌, Option, None, Some, inr, refl, sym}
 use Rattle.std.proofs.Common.{ap, subst, ◌∙◌}
 use Rattle.std.specs.List.{AllByRecursion}
 use Rattle.std.proofs.lemmas.List.Elements.{All-weaker}
 use Rattle.gds_block.specs.Block.{level_of}
-use Rattle.gds_block.specs.Fields.{u32_at}
 use Rattle.gds_block.specs.Item.{Item}
 use Rattle.gds_header.specs.declared.header.Header.{Header}
 use Rattle.gds_header.specs.Fields.{fields_of, block_of}
-use Rattle.gds_law.specs.Visit.{TreeRole, Visit}
+use Rattle.gds_law.specs.Visit.{Visit}
 use Rattle.gds_sound.specs.Sound.{Tree, sound_tree}
-use Rattle.m_key.specs.Key.{AtMost, Below}
-use Rattle.gds_tree.specs.Lawful.{IsOfRole, IsAboveLow, IsBelowHigh, IsLawfulRest, IsLawfulKey, IsLawfulEntry, MayBeEmpty}
+use Rattle.m_key.specs.Key.{AtMost}
+use Rattle.gds_tree.specs.Lawful.{IsOfRole, IsAboveLow, IsBelowHigh, IsLawfulRest, IsLawfulEntry}
 use Rattle.gds_tree.specs.RightBlock.{IsDueLevel, IsRightBlock}
-use Rattle.gds_tree.specs.Below.{high_below, visit_below, both, trees_below, HasEntries, leaf_tree, index_tree}
+use Rattle.gds_tree.specs.Below.{high_below, visit_below, trees_below, HasEntries}
 use Rattle.gds_tree.specs.Keeps.{IsImage, IsLowerLow, IsHigherHigh, IsWider}
 use Rattle.gds_tree.proofs.TestLemmas.{most_from, most_most, most_below, below_most}
-use Rattle.gds_tree.proofs.BelowLemmas.{AreBoth, both_parts, some_both}
+use Rattle.gds_tree.proofs.BelowLemmas.{both_parts, some_both}
 use Rattle.gds_tree.proofs.KeepLemmas.{pointers}
 use Rattle.gds_tree.proofs.PartLemmas.{lawful_index}
-use Rattle.gds_tree.proofs.TreeByLemmas.{leaf_by, index_by, LeafBy, by_leaf, IndexBy, by_index}
+use Rattle.gds_tree.proofs.TreeByLemmas.{leaf_by, index_by, by_leaf, by_index}
 
 -- ---- bounds
 

@@ -1,5 +1,5 @@
 -- A tree inside another: what the whole has before it and behind it.
-use Rattle.std.specs.Prelude.{◌≡◌, ℕ, ◌+◌, ◌≤◌, List, ◌++◌, length, Some}
+use Rattle.std.specs.Prelude.{◌≡◌, ℕ, ◌+◌, ◌≤◌, List, length, Some}
 use Rattle.gds_header.specs.Fields.{fields_of}
 use Rattle.gds_law.specs.Visit.{Visit}
 use Rattle.gds_law.specs.Path.{Steps}
@@ -18,12 +18,13 @@ Exchanges old v more w level before behind =
     → KeepsBlocks old new before.blocks → KeepsBlocks old new behind.blocks
     → (inner : Tree) → sound_tree new level w ≡ Some inner → sound_tree new (more + level) v ≡ Some (around before inner behind)
 
--- A path leads from a visit to another within one tree: what the whole has before and behind the tree there, so that
--- another tree may stand in its place.
+-- A path leads from a visit to another within one tree, which has one role: what the whole has before and behind the
+-- tree there, so that another tree may stand in its place.
 pub record IsAround (image : List ℕ) (v : Visit) (path : Steps) (w : Visit) (height : ℕ) (t : Tree) : Type 0 where
   pub before : Tree
   pub inner : Tree
   pub behind : Tree
+  pub role : w.role ≡ v.role
   pub sound : sound_tree image height w ≡ Some inner
   pub whole : t ≡ around before inner behind
   pub exchanges : Exchanges image v (length path) w height before behind

@@ -1,10 +1,10 @@
 -- Blocks that get other numbers, and the pointers that name them.
-use Rattle.std.specs.Prelude.{◌≡◌, ℕ, zero, suc, ◌==◌, List, map, Option, option_map, if◌then◌else◌}
+use Rattle.std.specs.Prelude.{◌≡◌, ℕ, zero, ◌==◌, List, map, option_map, if◌then◌else◌}
 use Rattle.gds_block.specs.Block.{level_of, used_of}
 use Rattle.gds_block.specs.Fields.{u32_at, u32_bytes}
 use Rattle.gds_block.specs.Item.{Item}
 use Rattle.gds_header.specs.Fields.{fields_of, block_of}
-use Rattle.gds_law.specs.Visit.{TreeRole, directory, global, Visit}
+use Rattle.gds_law.specs.Visit.{TreeRole, global, Visit}
 use Rattle.gds_pack.specs.Unpacked.{entries_of}
 use Rattle.gds_sound.specs.Sound.{Tree}
 use Rattle.gds_tree.specs.Lawful.{IsTreeNumber}

@@ -4,7 +4,6 @@ use Rattle.gds_block.specs.Block.{version_of, reserved_of, level_of, used_of, tn
 use Rattle.gds_block.specs.Item.{Item}
 use Rattle.gds_block.specs.Record.{bytes_left}
 use Rattle.gds_header.specs.declared.header.Header.{Header}
-use Rattle.gds_header.specs.Fields.{fields_of, image_length, block_of}
 use Rattle.gds_law.specs.Visit.{Visit}
 use Rattle.gds_pack.specs.Packed.{packed_size}
 use Rattle.gds_pack.specs.Unpacked.{entries_of}

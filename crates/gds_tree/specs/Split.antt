@@ -1,5 +1,5 @@
 -- A block of a tree in two pieces.
-use Rattle.std.specs.Prelude.{◌≡◌, ℕ, suc, List, Option, Some}
+use Rattle.std.specs.Prelude.{◌≡◌, ℕ, suc, List, Some}
 use Rattle.gds_law.specs.Visit.{Visit}
 use Rattle.gds_sound.specs.Sound.{Tree, joined, sound_tree}
 use Rattle.gds_tree.specs.Below.{index_tree}

@@ -2,6 +2,7 @@ ghost use Rattle.std.specs.Prelude.{◌≡◌, ◌<◌, ◌≤◌, ◌^◌, ℕ,
 ghost use Rattle.gds_block.specs.Block.{level_of};
 ghost use Rattle.gds_block.specs.Item.{Item};
 ghost use Rattle.gds_block.specs.Record.{bytes_left};
+ghost use Rattle.gds_header.specs.Fields.{fields_of, block_of};
 ghost use Rattle.gds_header.specs.Kinds.{IsWithinLimits};
 ghost use Rattle.gds_header.specs.declared.header.Header.{Header};
 ghost use Rattle.gds_law.specs.Visit.{Visit};
@@ -12,7 +13,8 @@ ghost use Rattle.gds_pack.specs.Packed.{packed_size, records_bytes, block_bytes}
 ghost use Rattle.gds_pack.specs.Unpacked.{entries_of};
 ghost use Rattle.gds_tree.specs.Lawful.{IsLawful};
 ghost use Rattle.gds_tree.specs.RightBlock.{UsesSame, IsStamped, IsDueLevel, IsRightBlock};
-ghost use Rattle.gds_tree.specs.Below.{children_by};
+ghost use Rattle.gds_tree.specs.Below.{children_by, HasEntries};
+ghost use Rattle.gds_tree.specs.Keeps.{IsImage};
 
 /// Two blocks that use the same bytes have the same children, items and entries, and where nothing is wrong with the
 /// one nothing is wrong with the other, if that is stamped right.
@@ -45,11 +47,17 @@ pub fn block_by_entries()
         → bytes_left block 16 ≡ records_bytes [] es }
 {}
 
-/// A packed block with lawful entries that fit is right, and has the size of a block.
+/// A packed block with lawful entries that fit is right, and has the size of a block. An image in which it stands has
+/// these entries there.
 pub fn packed_block()
     ensures right { (h : Header) (v : Visit) (level tn : ℕ) (es : List Item) → IsWithinLimits h → IsLawful h v level es
         → packed_size es ≤ h.block_size → IsDueLevel v.level level → tn < h.tn → tn < 2 ^ 64
         → IsRightBlock h v (block_bytes es level tn h.block_size) es }
     ensures size { (h : Header) (level tn : ℕ) (es : List Item) → IsWithinLimits h → packed_size es ≤ h.block_size
         → length (block_bytes es level tn h.block_size) ≡ h.block_size }
+    ensures written { (image : List ℕ) (v : Visit) (level tn : ℕ) (es : List Item) → IsImage image
+        → v.block < (fields_of image).total
+        → block_of image v.block ≡ block_bytes es level tn (fields_of image).block_size
+        → IsLawful (fields_of image) v level es → packed_size es ≤ (fields_of image).block_size
+        → IsDueLevel v.level level → tn < (fields_of image).tn → tn < 2 ^ 64 → HasEntries image v level es }
 {}

@@ -1,13 +1,15 @@
-ghost use Rattle.std.specs.Prelude.{◌≡◌, ◌≢◌, ◌++◌, ◌∷◌, [], ℕ, suc, List, Option, All};
+ghost use Rattle.std.specs.Prelude.{◌≡◌, ◌≢◌, ◌≤◌, ◌++◌, ◌∷◌, [], ℕ, suc, List, Option, All};
 ghost use Rattle.gds_block.specs.Item.{Item};
 ghost use Rattle.gds_header.specs.declared.header.Header.{Header};
+ghost use Rattle.gds_header.specs.Fields.{fields_of};
 ghost use Rattle.gds_law.specs.Visit.{Visit};
 ghost use Rattle.gds_pack.specs.Packable.{AreLeaves, AreIndex, ArePackable};
 ghost use Rattle.gds_pack.specs.Packed.{key_behind};
 ghost use Rattle.m_key.specs.Key.{Below};
 ghost use Rattle.m_key.specs.KeyEnd.{IsKey};
 ghost use Rattle.gds_tree.specs.Lawful.{IsAboveLow, IsBelowHigh, IsLawfulKey, IsLawfulRest, IsLawfulEntry, MayBeEmpty};
-ghost use Rattle.gds_tree.specs.Lawful.{IsLawful};
+ghost use Rattle.gds_tree.specs.Lawful.{IsLawful, IsPointer};
+ghost use Rattle.gds_tree.specs.Keeps.{IsImage, KeepsSizes};
 ghost use Rattle.gds_tree.specs.Below.{below_key, from_key, as_star, with_key, trees_below};
 
 /// The lawful entries of a block in two pieces are lawful in two blocks, whose bounds the key that parts them makes: at
@@ -60,12 +62,29 @@ pub fn changed_index()
         → All (IsLawfulEntry h v (suc level)) put → IsLawful h v (suc level) (a ++ put) }
 {}
 
+/// Where an entry of an index block becomes two, as where what stands below it is split, a lawful key parts them: above
+/// that of the entry before and below the entry's own, which the second of the two keeps.
+pub fn parted_entry()
+    ensures { (h : Header) (v : Visit) (level : ℕ) (a : List Item) (e : Item) (b : List Item) (key left right : List ℕ)
+        → IsLawful h v (suc level) (a ++ e ∷ b) → IsKey key → IsLawfulKey h v (suc level) key
+        → Below (key_behind [] a) key → (e.key ≢ [] → Below key e.key) → IsPointer h left → IsPointer h right
+        → IsLawful h v (suc level) (a ++ record { key = key; rest = left } ∷ record { key = e.key; rest = right } ∷ b) }
+{}
+
 /// The role and the bounds of a visit decide which entries are lawful there and, with the entries, what stands below.
 pub fn other_visit()
     ensures lawful { (h : Header) (v w : Visit) (level : ℕ) (es : List Item) → IsLawful h v level es → w.role ≡ v.role
         → w.low ≡ v.low → w.high ≡ v.high → IsLawful h w level es }
     ensures trees { (image : List ℕ) (v w : Visit) (level : ℕ) (low : Option (List ℕ)) (es : List Item)
         → v.role ≡ w.role → v.high ≡ w.high → trees_below image v level low es ≡ trees_below image w level low es }
+{}
+
+/// Lawful entries are so under another header with the same limits on keys and values and no smaller total and
+/// transaction number.
+pub fn other_header()
+    ensures { (old new : List ℕ) (v : Visit) (level : ℕ) (es : List Item) → IsImage old → IsImage new
+        → KeepsSizes old new → (fields_of old).total ≤ (fields_of new).total → IsLawful (fields_of old) v level es
+        → IsLawful (fields_of new) v level es }
 {}
 
 /// The same trees stand below the front of the entries of an index block where they have a block of their own, in which

@@ -33,6 +33,7 @@ use Rattle.gds_units.proofs.DurableLemmas.{found_before, keeps_same}
 use Rattle.gds_units.proofs.HeldLemmas.{front_less, inside_more}
 use Rattle.gds_units.proofs.KeepingLemmas.{all_kept_more}
 use Rattle.gds_units.proofs.PatchedLemmas.{patched_alike, same_fields}
+use Rattle.gds_units.proofs.ReadingLemmas.{after_reading}
 use Rattle.gds_units.proofs.PlanLemmas.{fields_patched, limits_after, readable_patched}
 
 -- ---- Units among which a plan's are put.
@@ -91,7 +92,7 @@ none_carried : (h : Header) (plan units : List WaitingUnit) (epoch : ℕ) → 0 
     → All (LiesWithin h.block_size (file_length_of h)) units → (units ≡ [] → epoch ≡ file_length_of h)
     → with_plan (up_to (header_after h plan).total units) plan ≡ [] → epoch ≡ file_length_of (header_after h plan)
 none_carried h [] units epoch some inside none empty =
-    none (sym (up_to_same h.block_size h.total h.total (file_length_of h) units refl some (omega arith) inside) ∙ empty)
+    none (sym (up_to_same h h.total units some (omega arith) inside) ∙ empty)
 none_carried h (x ∷ plan) units epoch some inside none empty =
     let left = up_to (header_after h (x ∷ plan)).total units in
     absurd (omega (arith, ap length empty, some-with_plan (with_unit left x) plan (length-with_unit left x).0))
@@ -130,7 +131,7 @@ module _ (h : Header) (extent : ℕ) (plan units : List WaitingUnit) (is : IsPla
   -- Where the total is no less than before, all units stay.
   left_all : 0 < h.block_size → h.total ≤ (header_after h plan).total → left ≡ units
   left_all some le =
-      up_to_same h.block_size h.total (header_after h plan).total (file_length_of h) units refl some le inside
+      up_to_same h (header_after h plan).total units some le inside
 
   -- no more units wait than before and the plan has
   pub length-carried : length carried ≤ length units + length plan
@@ -234,7 +235,8 @@ module _ (h : Header) (extent : ℕ) (plan units : List WaitingUnit) (is : IsPla
     pub is_carried_out : 0 < h.block_size → fields_of (patched h.block_size units db) ≡ h
         → IsCarriedOut h plan (patched h.block_size units db) (patched (header_after h plan).block_size carried db)
     is_carried_out some fields =
-        subst (λ size. IsCarriedOut h plan (patched h.block_size units db) (patched size carried db)) (sym is.block_size)
+        subst (λ size. IsCarriedOut h plan (patched h.block_size units db) (patched size carried db))
+        (sym is.block_size)
         (record {
           len = ap length file_carried ∙ length-patched h.block_size plan (patched h.block_size left db) plan_in_base
               ∙ base_long ∙ sym old_long;
@@ -287,16 +289,8 @@ module _ {H : Type 0} {told : H → Option Contents} {moment : H → ℕ} {left_
     (old new : H) (h : Header) (units : List WaitingUnit) (before : List Image) (epoch extent : ℕ) (stopped : Bool)
     (are : AreUnits told moment left_since old h units before epoch extent stopped)
     (tells : told new ≡ told old) (same : LeavesTheSame moment left_since old new) where
-  -- after reading alone
-  pub units_read : AreUnits told moment left_since new h units before epoch extent stopped
-  units_read = record {
-    places = are.places;
-    held = λ c is. are.held c (sym tells ∙ is);
-    found = λ c is d left. are.found c (sym tells ∙ is) d (same.stays d left);
-    resting = λ going c is.
-        let resting = are.resting going c (sym tells ∙ is) in
-        record { each = λ d left. resting.each d (same.stays d left); old = resting.old };
-  }
+  read : AreUnits told moment left_since new h units before epoch extent stopped
+  read = after_reading old new h units before epoch extent stopped are tells same.stays
 
   -- Reading leaves what was found before.
   pub read_keeps : (c : Contents) → told old ≡ Some c → Keeps moment left_since old new
@@ -310,7 +304,8 @@ module _ {H : Type 0} {told : H → Option Contents} {moment : H → ℕ} {left_
   -- after a plan
   module _ (plan : List WaitingUnit) (is : IsPlan h extent plan) (next : Header)
       (reserved dropped now : List WaitingUnit) (is_next : next ≡ header_after h plan) (unchanged : reserved ≡ units)
-      (drops : dropped ≡ up_to next.total reserved) (rising : IsRising dropped) (puts : now ≡ with_plan dropped plan) where
+      (drops : dropped ≡ up_to next.total reserved) (rising : IsRising dropped)
+      (puts : now ≡ with_plan dropped plan) where
     rising_left : IsRising (up_to (header_after h plan).total units)
     rising_left = subst IsRising (dropped_is h next plan units reserved dropped now is_next unchanged drops puts) rising
 
@@ -325,9 +320,9 @@ module _ {H : Type 0} {told : H → Option Contents} {moment : H → ℕ} {left_
           held = λ c known.
               held_after h extent plan units is are.places.inside are.places.now rising_left c
               (are.held c (sym tells ∙ known));
-          found = units_read.found;
+          found = read.found;
           resting = λ going c known. record {
-            each = (units_read.resting going c known).each;
+            each = (read.resting going c known).each;
             old = (olds c (sym tells ∙ known)).old;
           };
         } in

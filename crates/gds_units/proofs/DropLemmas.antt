@@ -1,18 +1,20 @@
 -- Units up to a last one, as where a file ends with it.
 use Rattle.std.proofs.Common.{◌≡◌, ℕ, ◌+◌, ◌-◌, ◌*◌, ◌<◌, ◌≤◌, ◌==◌, Bool, true, false, cond, List, [], ◌∷◌, ◌++◌}
-use Rattle.std.proofs.Common.{length, take, drop, refl, sym, ap, subst, ◌∙◌, ⊎_elim, arith, length-append, length-take}
+use Rattle.std.proofs.Common.{length, take, drop, refl, sym, ap, subst, ◌∙◌, arith, length-append, length-take}
 use Rattle.std.specs.Prelude.{All, filter, nat_le}
-use Rattle.std.proofs.lemmas.Bool.{cases_lt, eqb-false, le-leb, leb-false, leb-true, ne_eqb}
+use Rattle.std.proofs.lemmas.Bool.{eqb-false, le-leb, leb-false, leb-true, ne_eqb}
 use Rattle.std.proofs.lemmas.List.{take-append-le, take-take}
 use Rattle.std.proofs.lemmas.List.Elements.{All-cons, All-filter, All-head, All-nil, All-tail, All-weaker}
 use Rattle.std.proofs.lemmas.List.Elements.{filter_passes}
 use Rattle.std.proofs.lemmas.Nat.{mul-le, row_fits}
 use Rattle.host_model.specs.Disk.{written}
+use Rattle.gds_header.specs.Fields.{file_length_of}
+use Rattle.gds_header.specs.declared.header.Header.{Header}
 use Rattle.gds_images.proofs.WrittenLemmas.{length-written_within}
 use Rattle.gds_epoch.specs.Waiting.{LiesWithin, WaitingUnit, patched, place_of, size_of}
 use Rattle.gds_units.specs.Keeping.{HasSize}
-use Rattle.gds_units.proofs.KeepingLemmas.{size_from}
 use Rattle.gds_units.proofs.PatchedLemmas.{patched_alike}
+use Rattle.gds_units.proofs.UnitLemmas.{number_within}
 
 abbrev pub up_to : ℕ → List WaitingUnit → List WaitingUnit
 up_to last units = filter (λ w. nat_le w.unit last) units
@@ -36,13 +38,6 @@ behind_total size total unit less =
     let rows = mul-le total size (unit - 1) size (omega (arith, less)) (omega arith) in
     rw more (omega (arith, rows))
 
-up_to_total : (size total unit : ℕ) → 0 < size → place_of size unit + size_of size unit ≤ 8192 + total * size
-    → unit ≤ total
-up_to_total size total unit some fits = ⊎_elim
-    (λ (above : total < unit).
-    absurd (omega (arith, fits, behind_total size total unit above, size_from size unit some)))
-    (λ (le : unit ≤ total). le) (cases_lt total unit)
-
 -- ---- The units up to a last one.
 
 up_to_all : (last : ℕ) (units : List WaitingUnit) → All (λ (w : WaitingUnit). w.unit ≤ last) units
@@ -55,13 +50,12 @@ up_to_all last (x ∷ units) below =
     ∙ ap (λ us. x ∷ us) (up_to_all last units (All-tail P x units below))
 
 -- Those of a database with no greater total all stay.
-pub up_to_same : (size total last n : ℕ) (units : List WaitingUnit) → n ≡ 8192 + total * size → 0 < size → total ≤ last
-    → All (LiesWithin size n) units → up_to last units ≡ units
-up_to_same size total last n units is_n some le inside =
+pub up_to_same : (h : Header) (last : ℕ) (units : List WaitingUnit) → 0 < h.block_size → h.total ≤ last
+    → All (LiesWithin h.block_size (file_length_of h)) units → up_to last units ≡ units
+up_to_same h last units some le inside =
     up_to_all last units
-    (All-weaker (LiesWithin size n) (λ (w : WaitingUnit). w.unit ≤ last)
-    (λ w lies. omega (arith, le, up_to_total size total w.unit some (omega (arith, lies.size, lies.within, is_n))))
-    units inside)
+    (All-weaker (LiesWithin h.block_size (file_length_of h)) (λ (w : WaitingUnit). w.unit ≤ last)
+    (λ w lies. omega (arith, le, number_within h w some lies)) units inside)
 
 pub up_to_inside : (size last n : ℕ) (units : List WaitingUnit) → n ≡ 8192 + last * size → All (HasSize size) units
     → All (LiesWithin size n) (up_to last units)

@@ -41,7 +41,8 @@ pub image_is : (block_size : ℕ) (units : List WaitingUnit) (told : Option Cont
     → told ≡ Some c → option_map database_of (file_with block_size units told) ≡ Some image
     → database_of (patched block_size units c.db) ≡ image
 image_is block_size units None c image tells is = absurd (let no : None ≡ Some c = tells in cc)
-image_is block_size units (Some x) c image tells is = let same : x ≡ c = cc in rw same at (let one : database_of (patched block_size units x.db) ≡ image = cc in one)
+image_is block_size units (Some x) c image tells is =
+    let same : x ≡ c = cc in rw same at (let one : database_of (patched block_size units x.db) ≡ image = cc in one)
 
 module _ {H : Type 0} (moment : H → ℕ) (left_since : H → ℕ → Contents → Type 0) where
   -- What a crash now may leave was found before.
@@ -59,10 +60,12 @@ module _ {H : Type 0} (moment : H → ℕ) (left_since : H → ℕ → Contents 
   -- Where nothing is called, all is as it was.
   pub keeps_none : (host : H) → EachLeft moment left_since host IsRecoverable → Keeps moment left_since host host
   keeps_none host each =
-      no_call moment left_since host (AsBefore moment left_since host) (λ c left. found_before host c (each c left) left)
+      no_call moment left_since host (AsBefore moment left_since host)
+      (λ c left. found_before host c (each c left) left)
 
   -- so it is where crashes find no difference
-  pub keeps_same : (old new : H) → LeavesTheSame moment left_since old new → EachLeft moment left_since old IsRecoverable
+  pub keeps_same : (old new : H) → LeavesTheSame moment left_since old new
+      → EachLeft moment left_since old IsRecoverable
       → Keeps moment left_since old new
   keeps_same old new same each =
       same_only moment left_since old new (AsBefore moment left_since old) same

@@ -1,10 +1,10 @@
 -- Calls on units one after another, as a caller makes them.
-use Rattle.std.proofs.Common.{◌≡◌, ◌⊎◌, ℕ, ◌≤◌, ◌++◌, List, length, take, Option, None, Some, refl, sym, ap, subst, ◌∙◌, inl, inr}
+use Rattle.std.proofs.Common.{◌≡◌, ◌⊎◌, ℕ, ◌≤◌, ◌++◌, List, take, Option, Some, ap, subst, ◌∙◌}
+use Rattle.std.proofs.Common.{inl, inr}
 use Rattle.std.proofs.Common.{⊎_elim}
-use Rattle.std.specs.Option.{ForSome}
 use Rattle.std.specs.Prelude.{option_map}
 use Rattle.host_model.specs.Disk.{SaysSome, during}
-use Rattle.host_model.specs.Files.{Contents, saying}
+use Rattle.host_model.specs.Files.{Contents}
 use Rattle.host_model.specs.Moments.{EachLeft, LeavesOnly}
 use Rattle.host_model.specs.Told.{TellsOn}
 use Rattle.host_model.proofs.FileLemmas.{SaysSome-refl}
@@ -12,7 +12,6 @@ use Rattle.host_model.proofs.FrameLemmas.{TellsOn-some}
 use Rattle.host_model.proofs.MomentLemmas.{then_more, weaker}
 use Rattle.gds_header.specs.Fields.{file_length_of}
 use Rattle.gds_header.specs.declared.header.Header.{Header}
-use Rattle.gds_images.specs.Outcome.{RecoversTo}
 use Rattle.gds_images.specs.Recovered.{recovered}
 use Rattle.gds_epoch.specs.Epoch.{database_of}
 use Rattle.gds_epoch.specs.Waiting.{WaitingUnit}
@@ -40,7 +39,8 @@ carried_told h plan old new file is tells =
     told_now a b x e both = TellsOn-some a b (IsCarriedOut h plan) x e both
 
 -- a saying of which nothing has come yet
-unsaid : (bytes image text : List ℕ) (c : Contents) → Stores image text c → during (SaysSome bytes) (Stores image text) c
+unsaid : (bytes image text : List ℕ) (c : Contents) → Stores image text c
+    → during (SaysSome bytes) (Stores image text) c
 unsaid bytes image text c stored = (c, stored, SaysSome-refl bytes c)
 
 -- with more said the same is found
@@ -148,8 +148,13 @@ module _ {H : Type 0} (told : H → Option Contents) (moment : H → ℕ) (left_
     way_said mid new first stored saying_it =
         then_more moment left_since old mid new OnTheWay first
         (weaker moment left_since mid new (during (SaysSome bytes) (AsBefore moment left_since mid)) OnTheWay
-        (λ c is. inr (inr (is.0, stores_then moment left_since longer next before.said (left_since mid (moment mid)) is.0
-        stored is.1, is.2))) saying_it)
+        (λ c is. inr (inr (
+          is.0,
+          stores_then moment left_since longer next before.said
+              (left_since mid (moment mid)) is.0
+              stored is.1,
+          is.2,
+        ))) saying_it)
 
     pub stored_said : (mid new : H) → IsStored moment left_since next before.said mid
         → KeepsSaying moment left_since bytes mid new

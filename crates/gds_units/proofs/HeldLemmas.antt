@@ -1,5 +1,6 @@
 -- What is known of units after a call on their host.
-use Rattle.std.proofs.Common.{◌≡◌, ◌⊎◌, ℕ, ◌-◌, ◌^◌, ◌<◌, ◌≤◌, Bool, true, false, List, [], length, take, Option, None, Some}
+use Rattle.std.proofs.Common.{◌≡◌, ◌⊎◌, ℕ, ◌-◌, ◌^◌, ◌<◌, ◌≤◌, Bool, true, false, List, [], length, take, Option, None}
+use Rattle.std.proofs.Common.{Some}
 use Rattle.std.proofs.Common.{refl, sym, ap, subst, ◌∙◌, arith, length-take, replicate, inl, inr, true≢false, ◌∷◌}
 use Rattle.std.specs.Option.{ForSome}
 use Rattle.std.specs.Prelude.{All, option_map}
@@ -100,8 +101,13 @@ image_kept size units (Some c) (Some d) untold tells = ap Some tells
 
 pub grown_reach : (from to : ℕ) (c d : Contents) → from ≤ length c.db → d ≡ with_zeros from to c → to ≤ length d.db
 grown_reach from to c d fits is =
-    omega (arith, ap (λ (x : Contents). length x.db) is, length-written from (replicate (to - from) 0) c.db,
-    length-replicate {A = ℕ} (to - from) 0, fits)
+    omega (
+      arith,
+      ap (λ (x : Contents). length x.db) is,
+      length-written from (replicate (to - from) 0) c.db,
+      length-replicate {A = ℕ} (to - from) 0,
+      fits,
+    )
 
 -- They stand behind the units too.
 pub grown_file : (h : Header) (units : List WaitingUnit) (from to total : ℕ) (old new : Option Contents)
@@ -144,14 +150,16 @@ module _ {H : Type 0} {told : H → Option Contents} {moment : H → ℕ} {left_
         long = omega (arith, are.places.epoch, held.long);
         rest = rests_itself now_left host c epoch images tells resting;
         old = resting.old;
-        inside = inside_more h.block_size (file_length_of h) (length c.db) units (omega (arith, are.places.now, held.long))
+        inside = inside_more h.block_size (file_length_of h) (length c.db) units
+            (omega (arith, are.places.now, held.long))
             are.places.inside;
         kept = are.places.kept;
         whole = held.whole;
       }
 
   -- A call that keeps the front of the file leaves units, which reach as far as is known now.
-  module _ (old new : H) (h : Header) (units : List WaitingUnit) (images : List Image) (epoch extent : ℕ) (stopped : Bool)
+  module _ (old new : H) (h : Header) (units : List WaitingUnit) (images : List Image) (epoch extent : ℕ)
+      (stopped : Bool)
       (are : AreUnits told moment left_since old h units images epoch extent stopped) (going : stopped ≡ false)
       (n : ℕ) (is_n : n ≡ file_length_of h) (within : epoch ≤ n)
       (untold : told old ≡ None → told new ≡ None) (tells : TellsOn (told old) (told new) (KeepsFront n)) where
@@ -251,7 +259,8 @@ module _ {H : Type 0} {told : H → Option Contents} {moment : H → ℕ} {left_
       EachLeft moment left_since new (Rests (database_of (patched h.block_size units c.db)) c))
       → (none : List WaitingUnit) (clear : List Image) (n : ℕ) → none ≡ [] → clear ≡ [] → n ≡ file_length_of h
       → AreUnits told moment left_since new h none clear n extent stopped
-  after_epoch old new h units images epoch extent stopped are going untold tells rests none clear n is_none is_clear is_n =
+  after_epoch old new h units images epoch extent stopped are going untold tells rests none clear n is_none is_clear
+      is_n =
       let before : (d : Contents) → told new ≡ Some d
       → (c : Contents) × (told old ≡ Some c) × IsDone h.block_size units c d =
       λ d is. told_before (told old) (told new) (IsDone h.block_size units) d untold is tells in
@@ -268,7 +277,8 @@ module _ {H : Type 0} {told : H → Option Contents} {moment : H → ℕ} {left_
           now = places.now;
           short = places.short;
           inside = inside (file_length_of h);
-          kept = subst (λ us. All (IsKept h.block_size n clear) us) (sym is_none) (All-nil (IsKept h.block_size n clear));
+          kept = subst (λ us. All (IsKept h.block_size n clear) us) (sym is_none)
+              (All-nil (IsKept h.block_size n clear));
           none = λ e. is_n;
         };
         held = λ d is.
@@ -276,10 +286,14 @@ module _ {H : Type 0} {told : H → Option Contents} {moment : H → ℕ} {left_
             let held = are.held past.0 past.1 in
             let same : patched h.block_size none d.db ≡ patched h.block_size units past.0.db = bare d.db ∙ past.2.db in
             record {
-              long = omega (arith, held.long, ap length past.2.db,
-                  length-patched h.block_size units past.0.db
-                  (inside_more h.block_size (file_length_of h) (length past.0.db) units
-                  (omega (arith, places.now, held.long)) places.inside));
+              long = omega (
+                arith,
+                held.long,
+                ap length past.2.db,
+                length-patched h.block_size units past.0.db
+                    (inside_more h.block_size (file_length_of h) (length past.0.db) units
+                    (omega (arith, places.now, held.long)) places.inside),
+              );
               whole = subst (λ file. IsWhole (database_of file)) (sym same) held.whole;
               fields = ap fields_of same ∙ held.fields;
             };
@@ -291,7 +305,8 @@ module _ {H : Type 0} {told : H → Option Contents} {moment : H → ℕ} {left_
             let past = before d is in
             let held = are.held past.0 past.1 in
             let same : take n d.db ≡ database_of (patched h.block_size units past.0.db) =
-            ap (λ k. take k d.db) (is_n ∙ sym (ap file_length_of held.fields)) ∙ ap (take (image_length (patched h.block_size units past.0.db))) past.2.db in
+            ap (λ k. take k d.db) (is_n ∙ sym (ap file_length_of held.fields))
+            ∙ ap (take (image_length (patched h.block_size units past.0.db))) past.2.db in
             record {
               each = λ x left.
                   let at_rest = rests past.0 past.1 x left in record {
@@ -303,7 +318,8 @@ module _ {H : Type 0} {told : H → Option Contents} {moment : H → ℕ} {left_
       }
 
   -- One that failed leaves units on which nothing is written any more.
-  pub after_failure : (old new : H) (h : Header) (units : List WaitingUnit) (images later : List Image) (epoch extent : ℕ)
+  pub after_failure : (old new : H) (h : Header) (units : List WaitingUnit) (images later : List Image)
+      (epoch extent : ℕ)
       (stopped : Bool) → AreUnits told moment left_since old h units images epoch extent stopped → later ≡ images
       → (told old ≡ None → told new ≡ None) → TellsOn (told old) (told new) (StaysPatched h.block_size units)
       → ForSome (told old) (λ c. let either = FindsEither h.block_size epoch units c in
@@ -353,7 +369,6 @@ module _ {H : Type 0} {told : H → Option Contents} {moment : H → ℕ} {left_
       (image_is h.block_size units (told old) c image tells is)
       (keeps_either moment left_since old c (now_left old c tells) (take epoch c.db) (are.resting going c tells).each
       (database_of (patched h.block_size units c.db)) new (come c tells))
-
 
 module _ {H : Type 0} (told : H → Option Contents) (moment : H → ℕ) (left_since : H → ℕ → Contents → Type 0) where
   -- And once it has ended the image alone.

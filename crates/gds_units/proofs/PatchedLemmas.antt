@@ -51,7 +51,13 @@ take-patched size n (x ∷ units) file inside long =
     let is = All-head (LiesWithin size n) x units inside in
     let file' = written (place_of size x.unit) x.bytes file in
     take-patched size n units file' (All-tail (LiesWithin size n) x units inside)
-    (omega (arith, long, is.within, length-written_within (place_of size x.unit) x.bytes file (omega (arith, is.within, long))))
+    (omega (
+      arith,
+      long,
+      is.within,
+      length-written_within (place_of size x.unit) x.bytes file
+          (omega (arith, is.within, long)),
+    ))
     ∙ ap (patched size units) (take-written n (place_of size x.unit) x.bytes file is.within long)
 
 -- Units within the front of two files that begin alike leave them so.
@@ -64,11 +70,13 @@ patched_alike size n units a b inside long_a long_b same =
 -- Files that begin alike have one header.
 pub same_fields : (n : ℕ) (a b : List ℕ) → 8192 ≤ n → take n a ≡ take n b → fields_of a ≡ fields_of b
 same_fields n a b header same =
-    sym (fields_of-front 8192 a (lit≤ tt)) ∙ ap fields_of (sym (take-take 8192 n a header)) ∙ ap (λ f. fields_of (take 8192 f)) same
+    sym (fields_of-front 8192 a (lit≤ tt)) ∙ ap fields_of (sym (take-take 8192 n a header))
+    ∙ ap (λ f. fields_of (take 8192 f)) same
     ∙ ap fields_of (take-take 8192 n b header) ∙ fields_of-front 8192 b (lit≤ tt)
 
 -- and one database, where they are as long as it is
-pub same_database : (h : Header) (a b : List ℕ) → fields_of a ≡ h → take (file_length_of h) a ≡ take (file_length_of h) b
+pub same_database : (h : Header) (a b : List ℕ) → fields_of a ≡ h
+    → take (file_length_of h) a ≡ take (file_length_of h) b
     → (fields_of b ≡ h) × (database_of b ≡ database_of a)
 same_database h a b is same =
     let fields : fields_of b ≡ fields_of a =
@@ -88,7 +96,8 @@ front_long n a b long same = omega (arith, length-take n a, length-take n b, ap 
 written-front : (at : ℕ) (bytes front rest : List ℕ) → at + length bytes ≤ length front
     → written at bytes (front ++ rest) ≡ written at bytes front ++ rest
 written-front at bytes front rest fits =
-    ap (λ xs. xs ++ bytes ++ drop (at + length bytes) (front ++ rest)) (take-append-le at front rest (omega (arith, fits)))
+    ap (λ xs. xs ++ bytes ++ drop (at + length bytes) (front ++ rest))
+    (take-append-le at front rest (omega (arith, fits)))
     ∙ ap (λ xs. take at front ++ bytes ++ xs) (drop-append-le (at + length bytes) front rest fits)
     ∙ sym (append_assoc (take at front ++ bytes) (drop (at + length bytes) front) rest)
 

@@ -1,5 +1,6 @@
 -- What a read leaves of units, and what it gives.
-use Rattle.std.proofs.Common.{◌≡◌, ◌≢◌, ℕ, ◌+◌, ◌≤◌, ◌==◌, Bool, true, false, List, [], ◌∷◌, Result, Ok, Err, length, take, drop, Option, None, Some, sym, ap, subst, ◌∙◌, refl}
+use Rattle.std.proofs.Common.{◌≡◌, ◌≢◌, ℕ, ◌+◌, ◌≤◌, ◌==◌, Bool, true, false, List, [], ◌∷◌, Result, Ok, Err, length}
+use Rattle.std.proofs.Common.{take, drop, Option, None, Some, sym, ap, subst, ◌∙◌, refl}
 use Rattle.std.proofs.Common.{arith}
 use Rattle.std.specs.Option.{ForSome}
 use Rattle.std.specs.Prelude.{All, OnErr, option_map}
@@ -70,7 +71,8 @@ waiting_length size n unit (x ∷ units) bytes inside found =
 -- ---- A unit of the image.
 
 module _ (h : Header) (units : List WaitingUnit) (epoch extent : ℕ) (images : List Image)
-    (places : AreInPlace h epoch extent images units) (told : Option Contents) (held : ForSome told (IsHeld h extent units))
+    (places : AreInPlace h epoch extent images units) (told : Option Contents)
+    (held : ForSome told (IsHeld h extent units))
     (unit n : ℕ)
     (asked : ForSome (option_map database_of (file_with h.block_size units told)) (λ image. IsUnit image unit n)) where
   fields_at : (c : Contents) → (tells : told ≡ Some c) → option_map database_of (file_with h.block_size units told)
@@ -141,5 +143,6 @@ module _ (h : Header) (units : List WaitingUnit) (epoch extent : ℕ) (images : 
   copy_ends before now bytes (Ok value) found err = tt
   copy_ends before now bytes (Err e) found err =
       subst (EndsReading told before now) (sym err.1)
-      (none_if told (λ c tells. err.0 (waiting_length h.block_size (file_length_of h) unit units bytes places.inside found
+      (none_if told (λ c tells. err.0 (waiting_length h.block_size
+      (file_length_of h) unit units bytes places.inside found
       ∙ sym (asked_length c tells))))

@@ -1,5 +1,6 @@
 -- What a saying leaves of units.
-use Rattle.std.proofs.Common.{◌≡◌, ◌≤◌, ℕ, Bool, List, length, take, Option, None, Some, Result, Ok, Err, sym, ap, subst, ◌∙◌}
+use Rattle.std.proofs.Common.{◌≡◌, ◌≤◌, ℕ, Bool, List, length, take, Option, None, Some, Result, Ok, Err, sym, ap}
+use Rattle.std.proofs.Common.{subst, ◌∙◌}
 use Rattle.std.specs.Prelude.{All}
 use Rattle.host_model.specs.Disk.{Follows, SaysSome}
 use Rattle.host_model.specs.Files.{Contents, Says}

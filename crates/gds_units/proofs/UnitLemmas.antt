@@ -1,5 +1,6 @@
 -- The units of a database file with waiting units in their places.
-use Rattle.std.proofs.Common.{◌≡◌, ◌≢◌, ℕ, ◌+◌, ◌-◌, ◌*◌, ◌<◌, ◌≤◌, ◌==◌, Bool, true, false, List, [], ◌∷◌, ◌++◌, length}
+use Rattle.std.proofs.Common.{◌≡◌, ◌≢◌, ℕ, ◌+◌, ◌-◌, ◌*◌, ◌<◌, ◌≤◌, ◌==◌, Bool, true, false, List, [], ◌∷◌, ◌++◌}
+use Rattle.std.proofs.Common.{length}
 use Rattle.std.proofs.Common.{take, drop, None, Some, refl, sym, ap, subst, ◌∙◌, ⊎_elim, arith, append_assoc}
 use Rattle.std.proofs.Common.{length-append, length-take}
 use Rattle.std.specs.Prelude.{All}
@@ -8,10 +9,9 @@ use Rattle.std.proofs.lemmas.List.{drop-take, take-append-le, take-take}
 use Rattle.std.proofs.lemmas.List.Elements.{All-cons, All-head, All-nil, All-tail}
 use Rattle.std.proofs.Math.Nat.{mul-le-mul_right}
 use Rattle.std.proofs.Math.Seq.{drop-append_seam, take-append_seam}
-use Rattle.std.specs.Int.{w32, from_le_bytes}
 use Rattle.host_model.specs.Disk.{written}
 use Rattle.host_model.specs.Units.{IsUnit, block_length, unit_bytes, unit_length, unit_place}
-use Rattle.gds_block.specs.Fields.{u32_at}
+use Rattle.gds_law.proofs.UnitLemmas.{block_length-is}
 use Rattle.gds_header.specs.Fields.{fields_of, file_length_of, image_length}
 use Rattle.gds_header.specs.declared.header.Header.{Header}
 use Rattle.gds_images.proofs.WrittenLemmas.{length-written_within}
@@ -46,9 +46,13 @@ rising_count from last [] room rising above below = omega (arith, room)
 rising_count from last (x ∷ units) room rising above below =
     let first = All-head (λ (w : WaitingUnit). from ≤ w.unit) x units above in
     let top = All-head (λ (w : WaitingUnit). w.unit ≤ last) x units below in
-    omega (arith, first, rising_count (x.unit + 1) last units (omega (arith, top)) (rising_others x units rising)
-    (λ j d within. omega (arith, rising_first x units rising j d within))
-    (All-tail (λ (w : WaitingUnit). w.unit ≤ last) x units below))
+    omega (
+      arith,
+      first,
+      rising_count (x.unit + 1) last units (omega (arith, top)) (rising_others x units rising)
+          (λ j d within. omega (arith, rising_first x units rising j d within))
+          (All-tail (λ (w : WaitingUnit). w.unit ≤ last) x units below),
+    )
 
 -- ---- What a range of the file holds.
 
@@ -95,12 +99,15 @@ held_apart size unit w file other is = ⊎_elim
     (cases_lt w.unit unit)
   where
     above : (a b : ℕ) → a ≤ b → b ≢ a → a < b
-    above a b le ne = ⊎_elim (λ (less : a < b). less) (λ (ge : b ≤ a). absurd (ne (omega (arith, le, ge)))) (cases_lt a b)
+    above a b le ne = ⊎_elim (λ (less : a < b). less) (λ (ge : b ≤ a). absurd (ne (omega (arith, le, ge))))
+        (cases_lt a b)
 
-inside_placed : (size : ℕ) (w : WaitingUnit) (units : List WaitingUnit) (file : List ℕ) → LiesWithin size (length file) w
+inside_placed : (size : ℕ) (w : WaitingUnit) (units : List WaitingUnit) (file : List ℕ)
+    → LiesWithin size (length file) w
     → All (LiesWithin size (length file)) units → All (LiesWithin size (length (placed size w file))) units
 inside_placed size w units file is inside =
-    subst (λ n. All (LiesWithin size n) units) (sym (length-written_within (place_of size w.unit) w.bytes file is.within))
+    subst (λ n. All (LiesWithin size n) units) (sym
+    (length-written_within (place_of size w.unit) w.bytes file is.within))
     inside
 
 -- So it is with units of which it is none.
@@ -120,7 +127,8 @@ pub held_waiting : (size unit : ℕ) (units : List WaitingUnit) (file bytes : Li
     → held_by size unit (patched size units file) ≡ bytes
 held_waiting size unit [] file bytes rising inside found = absurd (let no : None ≡ Some bytes = found in cc)
 held_waiting size unit (x ∷ units) file bytes rising inside found =
-    by (x.unit == unit) refl (held_waiting size unit units (placed size x file) bytes (rising_others x units rising) rest)
+    by (x.unit == unit) refl (held_waiting size unit units (placed size x file) bytes
+    (rising_others x units rising) rest)
   where
     is : LiesWithin size (length file) x
     is = All-head (LiesWithin size (length file)) x units inside
@@ -166,20 +174,9 @@ held_other size unit units file inside none = held_by_file size unit units file 
 
 -- ---- The units of an image.
 
--- The number in four bytes is read from no more than these.
-four_bytes : (bytes : List ℕ) → from_le_bytes w32 (take 4 bytes) ≡ from_le_bytes w32 bytes
-four_bytes [] = refl
-four_bytes (a ∷ []) = refl
-four_bytes (a ∷ b ∷ []) = refl
-four_bytes (a ∷ b ∷ c ∷ []) = refl
-four_bytes (a ∷ b ∷ c ∷ d ∷ bytes) = refl
-
-block_length-is : (file : List ℕ) → block_length file ≡ (fields_of file).block_size
-unfolding u32_at
-block_length-is file = four_bytes (drop 8 file)
-
 -- A unit of an image is what the file that begins with it has in the unit's place.
-module _ (h : Header) (file image : List ℕ) (unit n : ℕ) (fields : fields_of image ≡ h) (is_image : database_of file ≡ image)
+module _ (h : Header) (file image : List ℕ) (unit n : ℕ) (fields : fields_of image ≡ h)
+    (is_image : database_of file ≡ image)
     (is_unit : IsUnit image unit n) where
   size_is : block_length image ≡ h.block_size
   size_is = block_length-is image ∙ ap (λ (x : Header). x.block_size) fields

@@ -13,7 +13,8 @@ abbrev pub WhereFileTold : {H : Type 0} → (H → Option Contents) → UnitsSta
 WhereFileTold told state P = ForSome (told state.host) (λ c. ForSome state.file (P c))
 
 module _ {H : Type 0} (moment : H → ℕ) (left_since : H → ℕ → Contents → Type 0) where
-  -- The next opening finds what it would have found before, or the image of then, and nothing more was said; or it finds
+  -- The next opening finds what it would have found before, or the image of then, and nothing more was said; or it
+  -- finds
   -- the next image, and some of the bytes were said.
   abbrev pub IsOnTheWay : H → Contents → List ℕ → List ℕ → List ℕ → Contents → Type 0
   IsOnTheWay old before file next bytes c =

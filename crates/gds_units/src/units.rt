@@ -25,7 +25,8 @@ use std::marker::Model;
 ///
 /// Clauses see a `Units` as its host, the database file with all changes in it where the host tells it, the header, how
 /// many bytes the last epoch's database has and how many the file has for sure, the number of units that changed since
-/// the last epoch, and whether a write has failed. The image, which is the database with all changes, is what the file begins with, as long as its header says.
+/// the last epoch, and whether a write has failed. The image, which is the database with all changes, is what the file
+/// begins with, as long as its header says.
 #[derive(Drop)]
 pub struct Units<H: Host> {
     host: H,
@@ -51,13 +52,13 @@ impl<H: Host> Model for Units<H> {
     ghost Value = { UnitsState H };
 
     ghost view = { λ units. record {
-        host = units.host;
-        file = file_with units.header.block_size units.waiting.units (H.told units.host);
-        header = units.header;
-        epoch = units.epoch_length;
-        extent = units.extent;
-        changed = length units.waiting.units;
-        stopped = units.is_stopped;
+      host = units.host;
+      file = file_with units.header.block_size units.waiting.units (H.told units.host);
+      header = units.header;
+      epoch = units.epoch_length;
+      extent = units.extent;
+      changed = length units.waiting.units;
+      stopped = units.is_stopped;
     } };
 
     ghost invariant = { λ units. AreUnits H.told H.moment H.left_since units.host units.header units.waiting.units

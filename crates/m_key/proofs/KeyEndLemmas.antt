@@ -264,7 +264,7 @@ key_within-whole limit bytes n h =
     ap key_len (sym same) ∙ key_len-take_more front n n h (omega arith) ∙ ap (λ k. Some k) (sym size)
 
 -- a key with a key as its front is that key
-front_key : (a b : List ℕ) → IsKey a → IsKey b → (n : ℕ) → n ≡ length a → take n b ≡ a → a ≡ b
+pub front_key : (a b : List ℕ) → IsKey a → IsKey b → (n : ℕ) → n ≡ length a → take n b ≡ a → a ≡ b
 front_key a b p q n long e =
     let whole : a ++ drop n b ≡ b = ap (λ xs. xs ++ drop n b) (sym e) ∙ take-append-drop n b in
     let ends : key_len b ≡ Some (length a) = ap key_len (sym whole) ∙ key_len-append a (drop n b) (length a) p.whole in

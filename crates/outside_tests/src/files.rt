@@ -1,12 +1,15 @@
-use host_file::{FileHost, StdinSource, read_full_at};
-use host_model::{FileNo, Host, HostFailed, Source};
-use std::alloc::Allocator;
-use std::io::{BufRead, ErrorKind, Lines};
-use std::os::unix::fs::FileExt;
-use std::test::Fail;
-use std::{env, fs, io, process};
+//! Real files, in the directory of temporary files.
 
-/// A path in the directory of temporary files that no other process uses, and no other test.
+use crate::steps::{Answers, Step, make_calls};
+use host_file::FileHost;
+use host_model::{FileNo, Host};
+use std::test::Fail;
+use std::{env, fs, process};
+
+/// What the file that a test isn't about holds.
+const OTHER: &[u8] = b"others";
+
+/// A path that no other process uses, and no other test.
 fn own_path(rt: &HostRuntime, test: &str) -> Result<String, Fail> {
     let dir = env::temp_dir(rt)?;
     let dir = dir.display();
@@ -14,212 +17,156 @@ fn own_path(rt: &HostRuntime, test: &str) -> Result<String, Fail> {
     Ok(format!(in rt.alloc(); "{dir}/host_file.{process}.{test}")?)
 }
 
-#[test]
-fn reads_files(rt: HostRuntime) -> Result<(), Fail> {
-    let path = own_path(&rt, "reads")?;
-    fs::write(&rt, path.as_str(), b"0123456789".as_slice())?;
-    let mut host = FileHost::new(&rt, rt.alloc(), path.as_str())?;
-    let mut out = [b'.'; 4];
-    let length = host.len(FileNo::Db);
-    let inside = host.read(FileNo::Db, 3, &mut out);
-    let at_end = host.read(FileNo::Db, 8, &mut out);
-    let past = host.read(FileNo::Db, u64::MAX, &mut out);
-    let missing = host.len(FileNo::Images);
-    let nothing = host.read(FileNo::Images, 0, &mut out);
-    fs::remove_file(&rt, path.as_str())?;
-    assert_eq!(rt; length, Ok(10));
-    assert_eq!(rt; inside, Ok(4));
-    assert_eq!(rt; at_end, Ok(2));
-    assert_eq!(rt; out, *b"8956");
-    assert_eq!(rt; past, Ok(0));
-    assert_eq!(rt; missing, Ok(0));
-    assert_eq!(rt; nothing, Ok(0));
-    assert_eq!(rt; host.say(b"said\n"), Ok(()));
-    Ok(())
+/// What calls on one of two real files answered, and what both files hold then.
+#[derive(Drop)]
+struct Changed {
+    told: Answers,
+    left: Vec<u8>,
+    other: Vec<u8>,
 }
 
-#[test]
-fn writes_a_file(rt: HostRuntime) -> Result<(), Fail> {
-    let path = own_path(&rt, "writes")?;
-    let mut host = FileHost::new(&rt, rt.alloc(), path.as_str())?;
-    let mut out = [b'.'; 8];
-    let missing = (host.sync(FileNo::Db), host.cut(FileNo::Db, 0));
-    let made = host.write_at(FileNo::Db, 0, b"0123456");
-    let longer = host.write_at(FileNo::Db, 5, b"abc");
-    let cut = host.cut(FileNo::Db, 7);
-    let synced = host.sync(FileNo::Db);
-    let length = host.len(FileNo::Db);
-    let read = host.read(FileNo::Db, 0, &mut out);
-    fs::remove_file(&rt, path.as_str())?;
-    assert_eq!(rt; missing, (Ok(()), Ok(())));
-    assert_eq!(rt; made, Ok(()));
-    assert_eq!(rt; longer, Ok(()));
-    assert_eq!(rt; cut, Ok(()));
-    assert_eq!(rt; synced, Ok(()));
-    assert_eq!(rt; length, Ok(7));
-    assert_eq!(rt; read, Ok(7));
-    assert_eq!(rt; out, *b"01234ab.");
-    Ok(())
-}
-
-/// Writes into a file of six bytes, cuts it to four, syncs it and reads it back.
-fn change(
-    host: &mut FileHost<'_, HostRuntime>,
+/// Makes these calls on a file that holds the bytes `first`, or is missing where they are none.
+fn change_file(
+    rt: &HostRuntime,
     file: FileNo,
-    out: &mut [u8],
-) -> Result<usize, HostFailed> {
-    host.write_at(file, 1, b"XY")?;
-    host.cut(file, 4)?;
-    host.sync(file)?;
-    host.read(file, 0, out)
+    first: &[u8],
+    steps: &[Step],
+) -> Result<Changed, Fail> {
+    let db = own_path(rt, "changed")?;
+    let images = format!(in rt.alloc(); "{db}.bi")?;
+    let (path, other_path) = match file {
+        FileNo::Db => (db.as_str(), images.as_str()),
+        FileNo::Images => (images.as_str(), db.as_str()),
+    };
+    fs::write(rt, other_path, OTHER)?;
+    if !first.is_empty() {
+        fs::write(rt, path, first)?;
+    }
+    let mut host = FileHost::new(rt, rt.alloc(), db.as_str())?;
+    let told = make_calls(rt.alloc(), &mut host, file, steps)?;
+    let left = fs::read(rt, path)?;
+    let other = fs::read(rt, other_path)?;
+    fs::remove_file(rt, path)?;
+    fs::remove_file(rt, other_path)?;
+    Ok(Changed { told, left, other })
 }
 
-/// What each call does to the file that it names, in the files of the system, and that the other file stays.
+/// Calls on a file of six bytes.
+const OF_A_FILE: &[Step] = &[
+    Step::Len,
+    Step::Read(3),
+    Step::Read(u64::MAX),
+    Step::Write(1, b"XY"),
+    Step::Cut(4),
+    Step::Sync,
+    Step::Read(0),
+    Step::Say(b"said\n"),
+];
+
+/// Calls on a file that is missing, of which the first write makes it.
+const OF_A_MISSING_FILE: &[Step] = &[
+    Step::Len,
+    Step::Read(0),
+    Step::Sync,
+    Step::Cut(0),
+    Step::Write(0, b"012345"),
+    Step::Write(5, b"abc"),
+    Step::Cut(7),
+    Step::Len,
+];
+
+/// What calls on a file answer, and what they make of it, and that the other file stays.
 #[test]
-fn changes_the_file_that_is_named(rt: HostRuntime) -> Result<(), Fail> {
-    let path = own_path(&rt, "both")?;
-    let images = format!(in rt.alloc(); "{path}.bi")?;
-    let rows: [(&str, FileNo, &[u8], &[u8], &[u8]); 2] = [
+fn calls_change_the_file_that_is_named(rt: HostRuntime) -> Result<(), Fail> {
+    let rows: [(&str, &[u8], &[Step], [u64; 8], &[u8], &[u8]); 2] = [
         (
-            "the file of blocks",
-            FileNo::Db,
+            "there",
+            b"blocks",
+            OF_A_FILE,
+            [6, 3, 0, 0, 0, 0, 4, 0],
+            b"cks.....bXYc",
             b"bXYc",
-            b"bXYc",
-            b"images",
         ),
         (
-            "the file of images",
-            FileNo::Images,
-            b"iXYg",
-            b"blocks",
-            b"iXYg",
+            "missing",
+            b"",
+            OF_A_MISSING_FILE,
+            [0, 0, 0, 0, 0, 0, 0, 7],
+            b"....",
+            b"01234ab",
         ),
     ];
-    for (label, file, want, blocks_after, images_after) in rows {
-        fs::write(&rt, path.as_str(), b"blocks".as_slice())?;
-        fs::write(&rt, images.as_str(), b"images".as_slice())?;
-        let mut host = FileHost::new(&rt, rt.alloc(), path.as_str())?;
-        let mut out = [b'.'; 4];
-        let read = change(&mut host, file, &mut out);
-        let blocks_left = fs::read(&rt, path.as_str())?;
-        let images_left = fs::read(&rt, images.as_str())?;
-        fs::remove_file(&rt, path.as_str())?;
-        fs::remove_file(&rt, images.as_str())?;
-        assert_eq!(rt; read, Ok(4), "{label}");
-        assert_eq!(rt; out.as_slice(), want, "{label}");
-        assert_eq!(rt; blocks_left.as_slice(), blocks_after, "{label}");
-        assert_eq!(rt; images_left.as_slice(), images_after, "{label}");
+    for (label, first, steps, numbers, read, left) in rows {
+        for file in [FileNo::Db, FileNo::Images] {
+            let got = change_file(&rt, file, first, steps)?;
+            assert_eq!(rt;
+                got.told.numbers.as_slice(),
+                numbers.map(Some).as_slice(),
+                "{label}, {file:?}"
+            );
+            assert_eq!(rt; got.told.read.as_slice(), read, "{label}, {file:?}");
+            assert_eq!(rt; got.left.as_slice(), left, "{label}, {file:?}");
+            assert_eq!(rt; got.other.as_slice(), OTHER, "{label}, {file:?}");
+        }
     }
     Ok(())
 }
 
 #[test]
-fn fails_on_a_directory(rt: HostRuntime) -> Result<(), Fail> {
+fn calls_fail_on_a_directory(rt: HostRuntime) -> Result<(), Fail> {
     let mut host = FileHost::new(&rt, rt.alloc(), "/")?;
-    let mut out = [b'.'; 4];
-    assert_eq!(rt; host.len(FileNo::Db), Err(HostFailed));
-    assert_eq!(rt; host.read(FileNo::Db, 0, &mut out), Err(HostFailed));
-    assert_eq!(rt; host.write_at(FileNo::Db, 0, b"x"), Err(HostFailed));
+    let steps = [Step::Len, Step::Read(0), Step::Write(0, b"x")];
+    let told = make_calls(rt.alloc(), &mut host, FileNo::Db, &steps)?;
+    assert_eq!(rt; told.numbers.as_slice(), [None; 3].as_slice());
     Ok(())
 }
 
 /// A file is held by the host that opened it or made it, and no other host reads or changes it meanwhile.
 #[test]
-fn keeps_a_second_host_out(rt: HostRuntime) -> Result<(), Fail> {
+fn a_second_host_is_kept_out(rt: HostRuntime) -> Result<(), Fail> {
+    let alloc = rt.alloc();
     let path = own_path(&rt, "locks")?;
-    let images = format!(in rt.alloc(); "{path}.bi")?;
-    let mut first = FileHost::new(&rt, rt.alloc(), path.as_str())?;
-    let mut second = FileHost::new(&rt, rt.alloc(), path.as_str())?;
-    let mut out = [b'.'; 4];
-    let both_missing = (first.len(FileNo::Db), second.len(FileNo::Db));
-    let made = first.write_at(FileNo::Db, 0, b"made");
-    let read = (second.len(FileNo::Db), second.read(FileNo::Db, 0, &mut out));
-    let changed = (
-        second.write_at(FileNo::Db, 0, b"other"),
-        second.cut(FileNo::Db, 0),
-        second.sync(FileNo::Db),
-    );
-    let other_file = second.write_at(FileNo::Images, 0, b"images");
-    let other_read = first.len(FileNo::Images);
+    let images = format!(in alloc; "{path}.bi")?;
+    let mut first = FileHost::new(&rt, alloc, path.as_str())?;
+    let mut second = FileHost::new(&rt, alloc, path.as_str())?;
+    let all = [
+        Step::Len,
+        Step::Read(0),
+        Step::Write(0, b"other"),
+        Step::Cut(0),
+        Step::Sync,
+    ];
+    let missing = make_calls(alloc, &mut second, FileNo::Db, &[Step::Len])?;
+    let made = make_calls(
+        alloc,
+        &mut first,
+        FileNo::Db,
+        &[Step::Len, Step::Write(0, b"made")],
+    )?;
+    let locked = make_calls(alloc, &mut second, FileNo::Db, &all)?;
+    let others = make_calls(
+        alloc,
+        &mut second,
+        FileNo::Images,
+        &[Step::Write(0, b"images")],
+    )?;
+    let other_locked = make_calls(alloc, &mut first, FileNo::Images, &[Step::Len])?;
     let left = fs::read(&rt, path.as_str())?;
     drop(first);
-    let freed = second.read(FileNo::Db, 0, &mut out);
+    let freed = make_calls(alloc, &mut second, FileNo::Db, &[Step::Read(0)])?;
     fs::remove_file(&rt, path.as_str())?;
     fs::remove_file(&rt, images.as_str())?;
-    assert_eq!(rt; both_missing, (Ok(0), Ok(0)));
-    assert_eq!(rt; made, Ok(()));
-    assert_eq!(rt; read, (Err(HostFailed), Err(HostFailed)));
-    assert_eq!(rt;
-        changed,
-        (Err(HostFailed), Err(HostFailed), Err(HostFailed))
-    );
+    for (label, told, want) in [
+        ("missing", &missing, &[Some(0)][..]),
+        ("made", &made, &[Some(0), Some(0)]),
+        ("locked", &locked, &[None; 5]),
+        ("others", &others, &[Some(0)]),
+        ("other locked", &other_locked, &[None]),
+        ("freed", &freed, &[Some(4)]),
+    ] {
+        assert_eq!(rt; told.numbers.as_slice(), want, "{label}");
+    }
     assert_eq!(rt; left.as_slice(), b"made".as_slice());
-    assert_eq!(rt; other_file, Ok(()));
-    assert_eq!(rt; other_read, Err(HostFailed));
-    assert_eq!(rt; freed, Ok(4));
-    assert_eq!(rt; out, *b"made");
-    Ok(())
-}
-
-/// A file of which a read gives three bytes at most, and none at all past the seventh.
-#[derive(Drop)]
-struct Pieces(&'static [u8]);
-
-impl FileExt for Pieces {
-    fn read_at(&self, buf: &mut [u8], offset: u64) -> io::Result<usize> {
-        if offset > 7 {
-            return Err(io::Error::from(ErrorKind::BrokenPipe));
-        }
-        let left = self.0.get(offset as usize..).unwrap_or(&[]);
-        let count = left.len().min(buf.len()).min(3);
-        buf[..count].copy_from_slice(&left[..count]);
-        Ok(count)
-    }
-
-    fn write_at(&self, _buf: &[u8], _offset: u64) -> io::Result<usize> {
-        Err(io::Error::from(ErrorKind::Unsupported))
-    }
-}
-
-#[test]
-fn goes_on_after_a_short_read(rt: HostRuntime) -> Result<(), Fail> {
-    let file = Pieces(b"abcdefg");
-    let mut out = [b'.'; 5];
-    assert_eq!(rt; read_full_at(&file, 0, &mut out)?, 5);
-    assert_eq!(rt; out, *b"abcde");
-    assert_eq!(rt; read_full_at(&file, 5, &mut out)?, 2);
-    assert_eq!(rt; out, *b"fgcde");
-    assert!(rt; read_full_at(&file, 8, &mut out).is_err());
-    Ok(())
-}
-
-/// A standard input that holds these bytes.
-struct Typed(&'static [u8]);
-
-impl Input for Typed {
-    type Reader = &'static [u8];
-
-    fn read_line<A: Allocator + Clone>(&self, _buf: &mut String<A>) -> io::Result<usize> {
-        Err(io::Error::from(ErrorKind::Unsupported))
-    }
-
-    fn lines<A: Allocator>(&self, alloc: A) -> Lines<&'static [u8], A> {
-        self.0.lines(alloc)
-    }
-
-    fn reader(&self) -> &'static [u8] {
-        self.0
-    }
-}
-
-#[test]
-fn takes_the_input(rt: HostRuntime) -> Result<(), Fail> {
-    let mut source = StdinSource::new(&Typed(b"typed"));
-    let mut out = [b'.'; 4];
-    assert_eq!(rt; source.take(&mut out), Ok(4));
-    assert_eq!(rt; out, *b"type");
-    assert_eq!(rt; source.take(&mut out), Ok(1));
-    assert_eq!(rt; out, *b"dype");
-    assert_eq!(rt; source.take(&mut out), Ok(0));
+    assert_eq!(rt; freed.read.as_slice(), b"made".as_slice());
     Ok(())
 }

@@ -7,3 +7,9 @@ mod crashes;
 mod files;
 #[cfg(test)]
 mod lines;
+#[cfg(test)]
+mod memory;
+#[cfg(test)]
+mod sources;
+#[cfg(test)]
+mod steps;

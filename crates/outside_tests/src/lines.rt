@@ -30,12 +30,13 @@ fn source(alloc: Global, bytes: &[u8], piece: usize) -> Result<MemSource, Fail>
 #[test]
 fn texts_have_these_lines(rt: HostRuntime) -> Result<(), Fail> {
     let alloc = rt.alloc();
-    let rows: [(&str, &[u8], &[&[u8]]); 7] = [
+    let rows: [(&str, &[u8], &[&[u8]]); 8] = [
         ("nothing", b"", &[]),
         ("a line end alone", b"\n", &[b""]),
         ("no line end", b"a", &[b"a"]),
         ("byte 13 at the end of the text", b"a\r", &[b"a\r"]),
         ("both bytes alone", b"\r\n", &[b""]),
+        ("byte 13 before the line end", b"a\r\nb", &[b"a", b"b"]),
         ("byte 13 twice", b"a\r\r\n", &[b"a\r"]),
         ("two lines", b"x\ny\n", &[b"x", b"y"]),
     ];
@@ -52,22 +53,12 @@ fn texts_have_these_lines(rt: HostRuntime) -> Result<(), Fail> {
 }
 
 #[test]
-fn lines_come_one_by_one(rt: HostRuntime) -> Result<(), Fail> {
-    let alloc = rt.alloc();
-    let mut reader = Lines::new(alloc, source(alloc, b"a\r\nb", 1)?);
-    assert_eq!(rt; reader.line()?, Some(b"a".as_slice()));
-    assert_eq!(rt; reader.line()?, Some(b"b".as_slice()));
-    assert_eq!(rt; reader.line()?, None);
-    let _source = reader.into_source();
-    Ok(())
-}
-
-#[test]
 fn a_failed_take_is_told(rt: HostRuntime) -> Result<(), Fail> {
     let alloc = rt.alloc();
     let failing = vec![in alloc; 1]?;
     let source = MemSource::new(Vec::from_slice(alloc, b"a\r\nb")?, 1, failing);
     let mut reader = Lines::new(alloc, source);
     assert_eq!(rt; reader.line().err(), Some(LinesError::InputFault));
+    let _source = reader.into_source();
     Ok(())
 }

@@ -10,6 +10,8 @@ mod chains;
 #[cfg(test)]
 mod newborn;
 #[cfg(test)]
+mod opened;
+#[cfg(test)]
 mod recovery;
 #[cfg(test)]
 mod stops;

@@ -1,4 +1,5 @@
-ghost use Rattle.std.specs.Prelude.{◌≡◌, ◌*◌, ◌+◌, ◌-◌, ◌^◌, ◌<◌, ◌≤◌, false, None, length, replicate, take, OnErr, OnOk};
+ghost use Rattle.std.specs.Prelude.{◌≡◌, ◌*◌, ◌+◌, ◌-◌, ◌^◌, ◌<◌, ◌≤◌, false, None, length, replicate, take, OnErr};
+ghost use Rattle.std.specs.Prelude.{OnOk};
 ghost use Rattle.std.specs.Option.{ForSome};
 ghost use Rattle.host_model.specs.Disk.{written};
 ghost use Rattle.host_model.specs.Failures.{NeverFell, Rose};
@@ -17,12 +18,17 @@ use gds_header::{HEADER_LENGTH, Header};
 use host_model::Host;
 
 impl<H: Host> Units<H> {
-    /// Makes the image durable: after Ok each crash leaves files of which the next opening finds it. It takes no memory.
+    /// Makes the image durable: after Ok each crash leaves files of which the next opening finds it. It takes no
+    /// memory.
     ///
     /// A crash on the way leaves what was found before, or the image.
     pub fn epoch(&mut self) -> Result<(), UnitError>
         ensures same { self.new ≡ record self.old {
-            host = self.new.host; epoch = self.new.epoch; changed = self.new.changed; stopped = self.new.stopped } }
+          host = self.new.host;
+          epoch = self.new.epoch;
+          changed = self.new.changed;
+          stopped = self.new.stopped;
+        } }
         ensures ok { OnOk result ((self.new.changed ≡ 0) × (self.new.epoch ≡ file_length_of self.old.header)) }
         ensures err { OnErr result ((self.new.changed ≡ self.old.changed) × (self.new.epoch ≡ self.old.epoch)) }
         ensures stored { OnOk result (WhereTold H.told self.old
@@ -42,7 +48,13 @@ impl<H: Host> Units<H> {
             return Ok(());
         }
         let block_size = self.header.block_size;
-        match write_epoch(&mut self.host, &mut self.before, &self.waiting, block_size, self.epoch_length) {
+        match write_epoch(
+            &mut self.host,
+            &mut self.before,
+            &self.waiting,
+            block_size,
+            self.epoch_length,
+        ) {
             Ok(()) => {
                 self.waiting.clear();
                 self.before.clear();
@@ -66,7 +78,8 @@ impl<H: Host> Units<H> {
         ensures header { self.new.header ≡ self.old.header }
         ensures changed { self.new.changed ≤ self.old.changed }
         ensures image { image_of self.new ≡ image_of self.old }
-        ensures file { OnOk result (TellsOn self.old.file self.new.file (λ old new. let from = file_length_of self.old.header in
+        ensures file { OnOk result (TellsOn self.old.file self.new.file (λ old new.
+            let from = file_length_of self.old.header in
             new ≡ written from (replicate (place_of self.old.header total - from) 0) old)) }
         ensures extent { OnOk result (self.new.extent ≡ place_of self.old.header total) }
         ensures kept { OnOk result (WhereTold H.told self.old
@@ -92,7 +105,8 @@ impl<H: Host> Units<H> {
         ensures header { self.new.header ≡ self.old.header }
         ensures changed { self.new.changed ≡ self.old.changed }
         ensures image { image_of self.new ≡ image_of self.old }
-        ensures file { OnOk result (TellsOn self.old.file self.new.file (λ old new. let from = file_length_of self.old.header in
+        ensures file { OnOk result (TellsOn self.old.file self.new.file (λ old new.
+            let from = file_length_of self.old.header in
             new ≡ written from (replicate (place_of self.old.header total - from) 0) old)) }
         ensures extent { OnOk result (self.new.extent ≡ place_of self.old.header total) }
         ensures any_moment { WhereTold H.told self.old
@@ -124,7 +138,11 @@ impl<H: Host> Units<H> {
     pub fn shorten(&mut self) -> Result<(), UnitError>
         requires { self.old.changed ≡ 0 }
         ensures same { self.new ≡ record self.old {
-            host = self.new.host; file = self.new.file; extent = self.new.extent; stopped = self.new.stopped } }
+          host = self.new.host;
+          file = self.new.file;
+          extent = self.new.extent;
+          stopped = self.new.stopped;
+        } }
         ensures image { image_of self.new ≡ image_of self.old }
         ensures file { OnOk result (self.new.file ≡ image_of self.old) }
         ensures extent { OnOk result (self.new.extent ≡ file_length_of self.old.header) }

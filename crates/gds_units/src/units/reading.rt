@@ -21,7 +21,8 @@ impl<H: Host> Units<H> {
         ensures bytes { OnOk result (ForSome (image_of self.old) (λ image. out.new ≡ unit_bytes image unit)) }
         ensures len { length out.new ≡ length out.old }
         ensures read { OnlyRead H.told H.moment H.failures H.left_since self.old self.new }
-        ensures cause { EndsReading (H.told self.old.host) (H.failures self.old.host) (H.failures self.new.host) result }
+        ensures cause { EndsReading
+            (H.told self.old.host) (H.failures self.old.host) (H.failures self.new.host) result }
     {
         match self.waiting.find(unit) {
             Some(bytes) => copy_unit(bytes, unit, out),

@@ -1,5 +1,3 @@
-use Rattle.std.proofs.Common.{sym, subst, ◌≤◌}
-use Rattle.gds_block.specs.Block.{used_of}
 use Rattle.gds_tree.proofs.FaultlessLemmas.{records_are, children_right, items_right, within_block}
 use Rattle.gds_tree.proofs.BytesLemmas.{used_bytes_are}
 use Rattle.gds_tree.proofs.block_laws.block_by_entries.Goals as goal

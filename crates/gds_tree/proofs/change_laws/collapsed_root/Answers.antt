@@ -1,4 +1,4 @@
-use Rattle.gds_tree.proofs.RootLemmas.{collapsed, front_below}
+use Rattle.gds_tree.proofs.RootLemmas.{collapsed}
 use Rattle.gds_tree.proofs.change_laws.collapsed_root.Goals as goal
 
 pub returns : goal.returns

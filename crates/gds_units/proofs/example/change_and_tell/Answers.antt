@@ -31,7 +31,8 @@ returns-in_err-change_on-clause-any_moment g c x tells file is =
     let new = c.change_on.new.units in
     let at = TellsOn-some (h.told old.host) (h.told mid.host) (λ a b. b.said ≡ a.said) x tells
     c.make_durable.ensures.said in
-    let stored : IsStored h.moment h.left_since next x.said mid.host = c.in_ok-make_durable.ensures.stored x tells file is in
+    let stored : IsStored h.moment h.left_since next x.said mid.host =
+    c.in_ok-make_durable.ensures.stored x tells file is in
     let stays : LeavesOnly h.moment h.left_since mid.host new.host (Stores next x.said) =
     subst (λ text. IsStored h.moment h.left_since next text mid.host
     → LeavesOnly h.moment h.left_since mid.host new.host (Stores next text)) at.2
@@ -52,7 +53,8 @@ returns-in_err-say-clause-any_moment g c x tells file is =
     let new = c.change_on.new.units in
     let at = TellsOn-some (h.told old.host) (h.told mid.host) (λ a b. b.said ≡ a.said) x tells
     c.make_durable.ensures.said in
-    let stored : IsStored h.moment h.left_since next x.said mid.host = c.in_ok-make_durable.ensures.stored x tells file is in
+    let stored : IsStored h.moment h.left_since next x.said mid.host =
+    c.in_ok-make_durable.ensures.stored x tells file is in
     let stays : LeavesOnly h.moment h.left_since mid.host new.host (Stores next x.said) =
     subst (λ text. IsStored h.moment h.left_since next text mid.host
     → LeavesOnly h.moment h.left_since mid.host new.host (Stores next text)) at.2
@@ -78,7 +80,8 @@ returns-clause-any_moment g c x tells file is =
     let new = c.change_on.new.units in
     let at = TellsOn-some (h.told old.host) (h.told mid.host) (λ a b. b.said ≡ a.said) x tells
     c.make_durable.ensures.said in
-    let stored : IsStored h.moment h.left_since next x.said mid.host = c.in_ok-make_durable.ensures.stored x tells file is in
+    let stored : IsStored h.moment h.left_since next x.said mid.host =
+    c.in_ok-make_durable.ensures.stored x tells file is in
     let stays : LeavesOnly h.moment h.left_since mid.host new.host (Stores next x.said) =
     subst (λ text. IsStored h.moment h.left_since next text mid.host
     → LeavesOnly h.moment h.left_since mid.host new.host (Stores next text)) at.2
@@ -104,7 +107,8 @@ returns-clause-stored g c x tells file is =
     let new = c.change_on.new.units in
     let at = TellsOn-some (h.told old.host) (h.told mid.host) (λ a b. b.said ≡ a.said) x tells
     c.make_durable.ensures.said in
-    let stored : IsStored h.moment h.left_since next x.said mid.host = c.in_ok-make_durable.ensures.stored x tells file is in
+    let stored : IsStored h.moment h.left_since next x.said mid.host =
+    c.in_ok-make_durable.ensures.stored x tells file is in
     let stays : LeavesOnly h.moment h.left_since mid.host new.host (Stores next x.said) =
     subst (λ text. IsStored h.moment h.left_since next text mid.host
     → LeavesOnly h.moment h.left_since mid.host new.host (Stores next text)) at.2

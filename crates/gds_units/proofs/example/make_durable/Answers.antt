@@ -1,4 +1,4 @@
-use Rattle.std.proofs.Common.{◌≡◌, ◌∙◌, Some, ap, sym, subst, inl, inr, refl}
+use Rattle.std.proofs.Common.{◌≡◌, ap, subst}
 use Rattle.std.specs.Prelude.{option_map}
 use Rattle.std.proofs.lemmas.Result.{on_ok_weaker}
 use Rattle.host_model.proofs.FrameLemmas.{TellsOn-some}
@@ -39,7 +39,8 @@ returns-clause-any_moment g c x tells file is =
     let plan = units_of c.args.plan.units.items in
     let next = image_after old.header plan file in
     let at = TellsOn-some (h.told old.host) (h.told mid.host) (λ a b. b.said ≡ a.said) x tells c.commit.ensures.said in
-    or_or h.told h.moment h.left_since g.met.H.Host.longer old.host mid.host c.epoch.new.self.host (database_of file) next
+    or_or h.told h.moment h.left_since g.met.H.Host.longer old.host mid.host c.epoch.new.self.host
+    (database_of file) next
     x.said (c.commit.ensures.any_moment x tells (database_of file) (ap (option_map database_of) is))
     (subst (λ text. KeepsOrStores h.moment h.left_since next text mid.host c.epoch.new.self.host) at.2
     (c.epoch.ensures.any_moment at.0 at.1 next

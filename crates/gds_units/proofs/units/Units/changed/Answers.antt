@@ -11,7 +11,8 @@ overflow_cast-result g c =
     let limits = c.self.invariant.places.limits in
     let few = rising_count 0 u.header.total u.waiting.units (omega arith) c.len.ensures.rising
     (λ i d within. omega arith)
-    (All-weaker (LiesWithin u.header.block_size (file_length_of u.header)) (λ (w : WaitingUnit). w.unit ≤ u.header.total)
+    (All-weaker (LiesWithin u.header.block_size (file_length_of u.header))
+    (λ (w : WaitingUnit). w.unit ≤ u.header.total)
     (λ w is. number_within u.header w (omega (arith, limits.block_from)) is) u.waiting.units
     c.self.invariant.places.inside) in
     omega (arith, few, limits.total_to, limits.limit_to, c.len.ensures.len)

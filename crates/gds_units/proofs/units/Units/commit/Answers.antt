@@ -10,7 +10,7 @@ use Rattle.gds_units.specs.Plan.{IsCarriedOut, IsPlan, header_after}
 use Rattle.gds_units.specs.State.{UnitsState, WhereTold, file_with}
 use Rattle.gds_units.proofs.DurableLemmas.{keeps_none, keeps_or}
 use Rattle.gds_units.proofs.CarriedLemmas.{file_carried_out, length-now, read_as_before, read_keeps, units_carried}
-use Rattle.gds_units.proofs.CarriedLemmas.{units_read}
+use Rattle.gds_units.proofs.ReadingLemmas.{after_reading}
 use Rattle.gds_units.proofs.units.Units.commit.Goals as goal
 
 pub returns-then-self-clause-any_moment : goal.returns-then-self-clause-any_moment
@@ -40,8 +40,8 @@ invariant_of-self-in_err-keep_plan g c =
     u.epoch_length u.extent u.is_stopped) (sym c.reserve.ensures.same)
     (subst (λ images. AreUnits h.told h.moment h.left_since c.keep_plan.new.host u.header u.waiting.units images
     u.epoch_length u.extent u.is_stopped) (sym c.in_err-keep_plan.ensures.err)
-    (units_read u.host c.keep_plan.new.host u.header u.waiting.units u.before u.epoch_length u.extent u.is_stopped
-    c.self.invariant e.read.told e.crash))
+    (after_reading u.host c.keep_plan.new.host u.header u.waiting.units u.before u.epoch_length u.extent u.is_stopped
+    c.self.invariant e.read.told e.crash.stays))
 
 pub returns-in_err-keep_plan-clause-any_moment : goal.returns-in_err-keep_plan-clause-any_moment
 returns-in_err-keep_plan-clause-any_moment g c =

@@ -3,7 +3,8 @@ use Rattle.std.proofs.lemmas.Bool.{eqb-true}
 use Rattle.gds_units.specs.Durable.{IsStored, KeepsOrStores}
 use Rattle.gds_units.specs.State.{UnitsState, WhereTold}
 use Rattle.gds_units.proofs.DurableLemmas.{keeps_none, keeps_or}
-use Rattle.gds_units.proofs.HeldLemmas.{after_epoch, after_failure, epoch_moments, epoch_stores, none_waits, ready, stored_idle}
+use Rattle.gds_units.proofs.HeldLemmas.{after_epoch, after_failure, epoch_moments, epoch_stores, none_waits, ready}
+use Rattle.gds_units.proofs.HeldLemmas.{stored_idle}
 use Rattle.gds_units.proofs.units.Units.epoch.Goals as goal
 
 pub returns-then-self-clause-any_moment : goal.returns-then-self-clause-any_moment
@@ -21,7 +22,8 @@ returns-then-is_empty-clause-stored g c =
     subst (λ (s : UnitsState g.row.H.Denot). WhereTold h.told s
     (λ c image. IsStored h.moment h.left_since image c.said s.host)) c.self.view_is
     (stored_idle u.host u.header u.waiting.units u.before u.epoch_length u.extent u.is_stopped c.self.invariant
-    c.if-self.false (none_waits u.waiting.units (eqb-true (length u.waiting.units) 0 (sym c.is_empty.ensures ∙ c.if-is_empty.true))))
+    c.if-self.false (none_waits u.waiting.units (eqb-true (length u.waiting.units) 0
+    (sym c.is_empty.ensures ∙ c.if-is_empty.true))))
 
 pub returns-then-is_empty-clause-any_moment : goal.returns-then-is_empty-clause-any_moment
 returns-then-is_empty-clause-any_moment g c =
@@ -58,7 +60,8 @@ returns-in-Ok-clause-stored g c =
     let u = c.self.inside in
     subst (λ (s : UnitsState g.row.H.Denot). WhereTold h.told s
     (λ x image. IsStored h.moment h.left_since image x.said c.write_epoch.new.host)) c.self.view_is
-    (epoch_stores h.told h.moment h.left_since u.host c.write_epoch.new.host u.header.block_size u.waiting.units c.in-Ok.ensures.rest)
+    (epoch_stores h.told h.moment h.left_since u.host c.write_epoch.new.host u.header.block_size u.waiting.units
+    c.in-Ok.ensures.rest)
 
 pub returns-in-Ok-clause-any_moment : goal.returns-in-Ok-clause-any_moment
 returns-in-Ok-clause-any_moment g c =

@@ -28,16 +28,25 @@ invariant_of-self g c =
     let is_n = c.file_length-from.ensures in
     let e = c.grow_file.ensures in
     let within : u.epoch_length ≤ n =
-    omega (arith, subst (λ (s : UnitsState g.row.H.Denot). s.epoch ≤ file_length_of s.header) (sym c.self.view_is)
-    c.requires.epoch, is_n) in
+    omega (
+      arith,
+      subst (λ (s : UnitsState g.row.H.Denot). s.epoch ≤ file_length_of s.header) (sym c.self.view_is)
+          c.requires.epoch,
+      is_n,
+    ) in
     let to = c.length_with-to.result in
     let more : n ≤ to =
-    omega (arith, is_n, c.length_with-to.ensures.length,
-    mul-le-mul_right u.header.block_size
-    (subst (λ (s : UnitsState g.row.H.Denot). s.header.total ≤ c.args.total) (sym c.self.view_is)
-    (omega (arith, c.requires.more)))) in
+    omega (
+      arith,
+      is_n,
+      c.length_with-to.ensures.length,
+      mul-le-mul_right u.header.block_size
+          (subst (λ (s : UnitsState g.row.H.Denot). s.header.total ≤ c.args.total) (sym c.self.view_is)
+          (omega (arith, c.requires.more))),
+    ) in
     after_front u.host c.grow_file.new.host u.header u.waiting.units u.before u.epoch_length
-    u.extent u.is_stopped c.self.invariant c.if-self.false n is_n within e.untold e.told e.any_moment to u.is_stopped more
+    u.extent u.is_stopped c.self.invariant c.if-self.false n is_n within e.untold e.told e.any_moment to u.is_stopped
+    more
     c.length_with-to.ensures.short
     (λ x y old new kept. grown_reach n to x y
     (omega (arith, is_n, c.self.invariant.places.now, (c.self.invariant.held x old).long))
@@ -52,10 +61,15 @@ invariant_of-self-in-Err g c =
     let is_n = c.file_length-from.ensures in
     let e = c.grow_file.ensures in
     let within : u.epoch_length ≤ n =
-    omega (arith, subst (λ (s : UnitsState g.row.H.Denot). s.epoch ≤ file_length_of s.header) (sym c.self.view_is)
-    c.requires.epoch, is_n) in
+    omega (
+      arith,
+      subst (λ (s : UnitsState g.row.H.Denot). s.epoch ≤ file_length_of s.header) (sym c.self.view_is)
+          c.requires.epoch,
+      is_n,
+    ) in
     after_front u.host c.grow_file.new.host u.header u.waiting.units u.before u.epoch_length
-    u.extent u.is_stopped c.self.invariant c.if-self.false n is_n within e.untold e.told e.any_moment n true (omega arith)
+    u.extent u.is_stopped c.self.invariant c.if-self.false n is_n within e.untold e.told e.any_moment n true
+    (omega arith)
     (omega (arith, c.self.invariant.places.now, c.self.invariant.places.short, is_n))
     (λ x y old new kept. front_reach u.host c.grow_file.new.host u.header u.waiting.units u.before u.epoch_length
     u.extent u.is_stopped c.self.invariant c.if-self.false n is_n within e.untold e.told x y old kept)
@@ -68,8 +82,12 @@ returns-in-Ok-clause-image g c =
     let is_n = c.file_length-from.ensures in
     let e = c.grow_file.ensures in
     let within : u.epoch_length ≤ n =
-    omega (arith, subst (λ (s : UnitsState g.row.H.Denot). s.epoch ≤ file_length_of s.header) (sym c.self.view_is)
-    c.requires.epoch, is_n) in
+    omega (
+      arith,
+      subst (λ (s : UnitsState g.row.H.Denot). s.epoch ≤ file_length_of s.header) (sym c.self.view_is)
+          c.requires.epoch,
+      is_n,
+    ) in
     subst (λ (s : UnitsState g.row.H.Denot). option_map database_of (file_with u.header.block_size u.waiting.units
     (h.told c.grow_file.new.host)) ≡ image_of s) c.self.view_is
     (front_image u.host c.grow_file.new.host u.header u.waiting.units u.before u.epoch_length
@@ -97,8 +115,12 @@ returns-in-Ok-clause-any_moment g c =
     let is_n = c.file_length-from.ensures in
     let e = c.grow_file.ensures in
     let within : u.epoch_length ≤ n =
-    omega (arith, subst (λ (s : UnitsState g.row.H.Denot). s.epoch ≤ file_length_of s.header) (sym c.self.view_is)
-    c.requires.epoch, is_n) in
+    omega (
+      arith,
+      subst (λ (s : UnitsState g.row.H.Denot). s.epoch ≤ file_length_of s.header) (sym c.self.view_is)
+          c.requires.epoch,
+      is_n,
+    ) in
     subst (λ (s : UnitsState g.row.H.Denot). WhereTold h.told s
     (λ x image. Keeps h.moment h.left_since s.host c.grow_file.new.host)) c.self.view_is
     (λ x tells image is. keeps_front u.host c.grow_file.new.host u.header u.waiting.units u.before u.epoch_length
@@ -113,8 +135,12 @@ returns-in-Err-clause-image g c =
     let is_n = c.file_length-from.ensures in
     let e = c.grow_file.ensures in
     let within : u.epoch_length ≤ n =
-    omega (arith, subst (λ (s : UnitsState g.row.H.Denot). s.epoch ≤ file_length_of s.header) (sym c.self.view_is)
-    c.requires.epoch, is_n) in
+    omega (
+      arith,
+      subst (λ (s : UnitsState g.row.H.Denot). s.epoch ≤ file_length_of s.header) (sym c.self.view_is)
+          c.requires.epoch,
+      is_n,
+    ) in
     subst (λ (s : UnitsState g.row.H.Denot). option_map database_of (file_with u.header.block_size u.waiting.units
     (h.told c.grow_file.new.host)) ≡ image_of s) c.self.view_is
     (front_image u.host c.grow_file.new.host u.header u.waiting.units u.before u.epoch_length
@@ -128,8 +154,12 @@ returns-in-Err-clause-any_moment g c =
     let is_n = c.file_length-from.ensures in
     let e = c.grow_file.ensures in
     let within : u.epoch_length ≤ n =
-    omega (arith, subst (λ (s : UnitsState g.row.H.Denot). s.epoch ≤ file_length_of s.header) (sym c.self.view_is)
-    c.requires.epoch, is_n) in
+    omega (
+      arith,
+      subst (λ (s : UnitsState g.row.H.Denot). s.epoch ≤ file_length_of s.header) (sym c.self.view_is)
+          c.requires.epoch,
+      is_n,
+    ) in
     subst (λ (s : UnitsState g.row.H.Denot). WhereTold h.told s
     (λ x image. Keeps h.moment h.left_since s.host c.grow_file.new.host)) c.self.view_is
     (λ x tells image is. keeps_front u.host c.grow_file.new.host u.header u.waiting.units u.before u.epoch_length

@@ -1,0 +1,3 @@
+pub mod PackedBlock
+pub mod Place
+pub mod Child

@@ -1,0 +1,5 @@
+pub mod File
+pub mod Global
+pub mod Entries
+pub mod Outcome
+pub mod Split
