@@ -2,6 +2,10 @@
 #![tactic(auto)]
 
 #[cfg(test)]
+mod answers;
+#[cfg(test)]
+mod calls;
+#[cfg(test)]
 mod chains;
 #[cfg(test)]
 mod newborn;
@@ -9,3 +13,5 @@ mod newborn;
 mod opened;
 #[cfg(test)]
 mod recovery;
+#[cfg(test)]
+mod stops;
