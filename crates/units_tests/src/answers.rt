@@ -122,6 +122,12 @@ fn opens_good_files_alone(rt: HostRuntime) -> Result<(), Fail> {
             Err(UnitError::BadImages { at: 9 }),
         ),
         (
+            "another label",
+            b"d",
+            b"GDSBIMG2\0",
+            Err(UnitError::BadImages { at: 0 }),
+        ),
+        (
             "no database",
             b"",
             &CLOSED,

@@ -1,6 +1,5 @@
 //! Databases that are made and opened.
 
-use fixtures::CLOSED;
 use gds_header::Header;
 use gds_units::{UnitError, Units};
 use host_mem::MemHost;
@@ -61,26 +60,6 @@ fn opens_what_it_made(rt: HostRuntime) -> Result<(), Fail> {
         Err(error) => Err(error),
     };
     assert_eq!(rt; length, Ok(LENGTH));
-    Ok(())
-}
-
-#[test]
-fn says_what_it_can_not_open(rt: HostRuntime) -> Result<(), Fail> {
-    let alloc = rt.alloc();
-    for (label, images, want) in [
-        (
-            "images without a label",
-            &b"GDSBIMG2\0"[..],
-            UnitError::BadImages { at: 0 },
-        ),
-        ("no header", &CLOSED[..], UnitError::Unsound { faults: 1 }),
-    ] {
-        assert_eq!(rt;
-            opened(alloc, host(alloc, b"d", images)?),
-            Err(want),
-            "{label}"
-        );
-    }
     Ok(())
 }
 
