@@ -7,8 +7,8 @@ use gds_header::HEADER_LENGTH;
 use host_mem::MemHost;
 use std::test::Fail;
 
-/// At which call it fails, the exit status, and how many lines were said: among them a read and a saying in the midst of
-/// the nodes.
+/// At which call it fails, the exit status, and how many lines were said: among them a read and a saying in the midst
+/// of the nodes.
 #[test]
 fn an_extract_ends_with_the_failures_status(rt: HostRuntime) -> Result<(), Fail> {
     let alloc = rt.alloc();

@@ -70,8 +70,8 @@ fn each_fault_has_its_line(rt: HostRuntime) -> Result<(), Fail> {
     Ok(())
 }
 
-/// The faults of the header come first, then those of the trees: with a byte behind its end the file is too long, and no
-/// block's transaction number is below 0.
+/// The faults of the header come first, then those of the trees: with a byte behind its end the file is too long, and
+/// no block's transaction number is below 0.
 #[test]
 fn the_faults_have_their_order(rt: HostRuntime) -> Result<(), Fail> {
     let alloc = rt.alloc();

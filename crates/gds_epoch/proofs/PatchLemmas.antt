@@ -7,7 +7,8 @@ use Rattle.std.proofs.lemmas.List.{ext_get_or}
 use Rattle.std.proofs.lemmas.List.Elements.{All-cons, All-head, All-tail}
 use Rattle.std.proofs.lemmas.Nat.{row_fits}
 use Rattle.host_model.specs.Disk.{written}
-use Rattle.gds_images.proofs.WrittenLemmas.{length-written_within, written_before, written_behind, written_within}
+use Rattle.host_model.proofs.FileLemmas.{written-before}
+use Rattle.gds_images.proofs.WrittenLemmas.{length-written_within, written_behind, written_within}
 use Rattle.gds_epoch.specs.Waiting.{IsRising, LiesWithin, WaitingUnit, patched, place_of, size_of, with_plan, with_unit}
 
 -- the numbers of all are above this one
@@ -64,22 +65,22 @@ written_apart at to first second file apart fits =
     let within : i < length file = omega (arith, below, long) in
     ⊎_elim
     (λ (before : i < at).
-    written_before at first M i (omega (arith, within, M_long)) before
-    ∙ written_before to second file i within (omega arith)
-    ∙ sym (written_before to second N i (omega (arith, within, N_long)) (omega arith)
-    ∙ written_before at first file i within before))
+    written-before at first M i (omega (arith, within, M_long)) before
+    ∙ written-before to second file i within (omega arith)
+    ∙ sym (written-before to second N i (omega (arith, within, N_long)) (omega arith)
+    ∙ written-before at first file i within before))
     (λ (from : at ≤ i).
     ⊎_elim
     (λ (inside : i < at + length first).
     written_within at first M i (omega arith) from inside
-    ∙ sym (written_before to second N i (omega (arith, within, N_long)) (omega arith)
+    ∙ sym (written-before to second N i (omega (arith, within, N_long)) (omega arith)
     ∙ written_within at first file i (omega arith) from inside))
     (λ (behind : at + length first ≤ i).
     written_behind at first M i L_fits behind
     ∙ ⊎_elim
     (λ (before : i < to).
-    written_before to second file i within before
-    ∙ sym (written_before to second N i (omega (arith, within, N_long)) before
+    written-before to second file i within before
+    ∙ sym (written-before to second N i (omega (arith, within, N_long)) before
     ∙ written_behind at first file i (omega arith) behind))
     (λ (from_too : to ≤ i).
     ⊎_elim
@@ -107,8 +108,8 @@ written_over at first second file same fits =
     let within : i < length file = omega (arith, below, long) in
     ⊎_elim
     (λ (before : i < at).
-    written_before at first M i (omega (arith, within, M_long)) before
-    ∙ written_before at second file i within before ∙ sym (written_before at first file i within before))
+    written-before at first M i (omega (arith, within, M_long)) before
+    ∙ written-before at second file i within before ∙ sym (written-before at first file i within before))
     (λ (from : at ≤ i).
     ⊎_elim
     (λ (inside : i < at + length first).

@@ -9,7 +9,8 @@ use Rattle.std.proofs.lemmas.List.Elements.{All-append, All-cons, All-head, All-
 use Rattle.host_model.specs.declared.host.FileNo.TheVariants.{Db}
 use Rattle.host_model.specs.Disk.{Changes, Torn, written}
 use Rattle.host_model.specs.Files.{Contents, with_file}
-use Rattle.gds_images.proofs.WrittenLemmas.{length-written_within, written_before, written_behind, written_within}
+use Rattle.host_model.proofs.FileLemmas.{written-before}
+use Rattle.gds_images.proofs.WrittenLemmas.{length-written_within, written_behind, written_within}
 use Rattle.gds_epoch.specs.Waiting.{HasBytes, IsUnder, LiesWithin, TornUnits, WaitingUnit, patched, place_of}
 use Rattle.gds_epoch.specs.WaitingView.{unit_of, units_of}
 use Rattle.gds_epoch.specs.declared.waiting.UnitBytes.{UnitBytes}
@@ -98,9 +99,9 @@ patched_agrees_at size (x ∷ units) a b i long inside within same =
     (λ none.
     ⊎_elim
     (λ (before : i < at).
-    written_before at bytes a i within before
+    written-before at bytes a i within before
     ∙ same (λ some. ⊎_elim (λ here. omega (arith, here.0)) none (any_cases _ x units some))
-    ∙ sym (written_before at bytes b i (omega (arith, within, long)) before))
+    ∙ sym (written-before at bytes b i (omega (arith, within, long)) before))
     (λ (from : at ≤ i).
     ⊎_elim
     (λ (under : i < at + length bytes).

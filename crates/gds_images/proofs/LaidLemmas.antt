@@ -10,7 +10,8 @@ use Rattle.gds_images.specs.declared.chain.Place.{Place}
 use Rattle.gds_images.specs.Chain.{bytes_of}
 use Rattle.gds_images.specs.Laws.{IsCovered, LaysBackItself, LaysOverOutside}
 use Rattle.gds_images.specs.Recovered.{laid}
-use Rattle.gds_images.proofs.WrittenLemmas.{length-written_within, written_before, written_behind, written_itself}
+use Rattle.host_model.proofs.FileLemmas.{written-before}
+use Rattle.gds_images.proofs.WrittenLemmas.{length-written_within, written_behind, written_itself}
 use Rattle.gds_images.proofs.WrittenLemmas.{written_within}
 
 -- An image has no more bytes than its place says.
@@ -59,8 +60,8 @@ laid_byte images a b epoch i long_a long_b low (place ∷ places) within full sa
     (λ bare. same (λ covered. ⊎_elim outside bare covered)) in
     ⊎_elim
     (λ (before : i < place.at).
-    written_before place.at bytes over_a i (omega arith) before ∙ rest (λ c. omega (arith, c.0))
-    ∙ sym (written_before place.at bytes over_b i (omega arith) before))
+    written-before place.at bytes over_a i (omega arith) before ∙ rest (λ c. omega (arith, c.0))
+    ∙ sym (written-before place.at bytes over_b i (omega arith) before))
     (λ (from : place.at ≤ i). ⊎_elim
     (λ (to : i < place.at + place.len).
     written_within place.at bytes over_a i (omega arith) from (omega arith)

@@ -18,7 +18,7 @@ use Rattle.gds_images.specs.Laws.{RestIsFound}
 use Rattle.gds_images.specs.Outcome.{IsClosed, IsWhole}
 use Rattle.gds_images.specs.Recovered.{recovered, recovered_by, trimmed, trimmed_by}
 
-none_of : (o : Option HeaderKind) → ((kind : HeaderKind) → o ≡ Some kind → ⊥) → o ≡ None
+pub none_of : (o : Option HeaderKind) → ((kind : HeaderKind) → o ≡ Some kind → ⊥) → o ≡ None
 none_of None never = refl
 none_of (Some kind) never = absurd (never kind refl)
 

@@ -1,7 +1,7 @@
 -- A file with some bytes written over it, byte by byte.
 use Rattle.std.proofs.Common.{◌≡◌, ℕ, ◌+◌, ◌-◌, ◌<◌, ◌≤◌, List, ◌++◌, length, take, drop, slice_index, arith, sym}
 use Rattle.std.proofs.Common.{ap, ◌∙◌}
-use Rattle.std.proofs.Common.{length-take, length-drop, length-append, get_or-take, get_or-drop, append_assoc}
+use Rattle.std.proofs.Common.{length-take, length-drop, length-append, get_or-drop, append_assoc}
 use Rattle.std.proofs.lemmas.List.{get_or-append_right, get_or_append_left, drop-drop, take-append-drop}
 use Rattle.host_model.specs.Disk.{written}
 
@@ -10,15 +10,7 @@ pub length-written_within : (at : ℕ) (bytes file : List ℕ) → at + length b
     → length (written at bytes file) ≡ length file
 length-written_within at bytes file fits = simp (length-append, length-take, length-drop) (omega arith)
 
--- The bytes before them and behind them stay, and those in their range are theirs.
-pub written_before : (at : ℕ) (bytes file : List ℕ) (i : ℕ) → i < length file → i < at
-    → slice_index (written at bytes file) i ≡ slice_index file i
-written_before at bytes file i within lt =
-    let short : i < length (take at file) = simp length-take (omega arith) in
-    let longer : i < length (take at file ++ bytes) = simp (length-append, length-take) (omega arith) in
-    get_or_append_left (take at file ++ bytes) (drop (at + length bytes) file) 0 i longer
-    ∙ get_or_append_left (take at file) bytes 0 i short ∙ get_or-take at file i 0 lt
-
+-- The bytes in their range are theirs, and those behind them stay.
 pub written_within : (at : ℕ) (bytes file : List ℕ) (i : ℕ) → at ≤ length file → at ≤ i → i < at + length bytes
     → slice_index (written at bytes file) i ≡ slice_index bytes (i - at)
 written_within at bytes file i fits from to =

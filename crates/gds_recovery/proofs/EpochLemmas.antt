@@ -16,7 +16,8 @@ use Rattle.gds_images.proofs.ChainLemmas.{IsClosedChain, IsOpenChain, chain_of_c
 use Rattle.gds_images.proofs.GateLemmas.{Closes, chain_closes, chain_lies}
 use Rattle.gds_images.proofs.ImagesLemmas.{images_lie}
 use Rattle.gds_images.proofs.LaidLemmas.{laid_over_outside, length-laid}
-use Rattle.gds_images.proofs.WrittenLemmas.{length-written_within, written_before, written_behind}
+use Rattle.host_model.proofs.FileLemmas.{written-before}
+use Rattle.gds_images.proofs.WrittenLemmas.{length-written_within, written_behind}
 use Rattle.gds_recovery.specs.Steps.{IsWithin, LaysOver}
 
 -- What images leave outside their ranges stays.
@@ -35,7 +36,7 @@ laid_over images (place ∷ places) file within =
       no_shorter = omega (arith, length-written_within place.at bytes over (omega arith));
       outside = λ i low out. ⊎_elim
           (λ (before : i < place.at).
-          written_before place.at bytes over i (omega arith) before ∙ rest.outside i low (λ c. out (inr c)))
+          written-before place.at bytes over i (omega arith) before ∙ rest.outside i low (λ c. out (inr c)))
           (λ (from : place.at ≤ i). ⊎_elim
           (λ (inside : i < place.at + place.len). absurd (out (inl (from, inside))))
           (λ (past : place.at + place.len ≤ i).

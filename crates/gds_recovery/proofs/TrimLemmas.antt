@@ -1,6 +1,6 @@
 -- A database file that is longer than its header says, and what an opening finds of it while it is cut.
 use Rattle.std.proofs.Common.{◌≡◌, ℕ, ◌<◌, ◌≤◌, cond, ltb, false, true, List, length, take}
-use Rattle.std.proofs.Common.{Option, None, Some, refl, sym, ap, subst, ◌∙◌, arith, lit≤, length-take, get_or-take}
+use Rattle.std.proofs.Common.{None, Some, refl, sym, ap, subst, ◌∙◌, arith, lit≤, length-take, get_or-take}
 use Rattle.std.proofs.lemmas.Bool.{le-ltb, lt-ltb}
 use Rattle.std.proofs.lemmas.List.{ext_get_or, take-take, take_all}
 use Rattle.std.proofs.lemmas.Option.{same_Some}
@@ -10,20 +10,15 @@ use Rattle.host_model.specs.Files.{Contents, with_file}
 use Rattle.gds_header.specs.Fields.{fields_of, file_length_of, image_length}
 use Rattle.gds_header.specs.Kinds.{ending_kind, unreadable}
 use Rattle.gds_header.specs.declared.header.Header.{Header}
-use Rattle.gds_header.specs.declared.kind.HeaderKind.{HeaderKind}
 use Rattle.gds_header.specs.declared.kind.HeaderKind.TheVariants.{ShortFile, ShortHeader}
 use Rattle.gds_header.proofs.EndingLemmas.{ending_kind-readable, ending_kind-short, ending_kind-unreadable}
 use Rattle.gds_header.proofs.EndingLemmas.{fields_of-front}
 use Rattle.gds_images.specs.Outcome.{IsAtRest, IsClosed, IsWhole}
 use Rattle.gds_images.specs.Recovered.{recovered, recovered_by, trimmed, trimmed_by}
-use Rattle.gds_images.proofs.RestLemmas.{closed_chain, rest_found}
+use Rattle.gds_images.proofs.RestLemmas.{closed_chain, none_of, rest_found}
 use Rattle.gds_recovery.specs.Found.{EndsReading, FindsSame, IsOpened, IsUnreadable}
 use Rattle.gds_recovery.specs.Steps.{IsReadable}
 use Rattle.gds_recovery.proofs.FoundLemmas.{closed_again, closed_byte}
-
-none_of : (o : Option HeaderKind) → ((kind : HeaderKind) → o ≡ Some kind → ⊥) → o ≡ None
-none_of None never = refl
-none_of (Some kind) never = absurd (never kind refl)
 
 -- ---- What is read of the header.
 

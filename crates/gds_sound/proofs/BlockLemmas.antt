@@ -232,7 +232,8 @@ no_pointer true due four x y l d = absurd (cc)
 no_pointer false true four x y l d = absurd (cc)
 no_pointer false false four x y l d = refl
 
-pub value_children : (b : BlockReading) (previous : List ℕ) (rs : List Record) → (b.level == 0) ≡ true → points b ≡ false
+pub value_children : (b : BlockReading) (previous : List ℕ) (rs : List Record) → (b.level == 0) ≡ true
+    → points b ≡ false
     → children_from b previous rs ≡ []
 value_children b previous [] z d = refl
 value_children b previous (r ∷ rs) z d =
@@ -281,7 +282,8 @@ index_children b previous (r ∷ rs) c z i =
         → (IsIn (children_from b (key_of b (seen previous r)) rs) c → IsBelow b c) → IsBelow b c
     by true j next = absurd j
     by false j next =
-        elim (in_either (children_of_record b (seen previous r)) (children_from b (key_of b (seen previous r)) rs) c j) [
+        elim (in_either
+        (children_of_record b (seen previous r)) (children_from b (key_of b (seen previous r)) rs) c j) [
           | inl k ↦ index_child b (seen previous r) c z k
           | inr k ↦ next k
         ]

@@ -20,21 +20,14 @@ use Rattle.gds_law.specs.declared.kind.FaultKind.{FaultKind}
 use Rattle.gds_law.specs.declared.kind.FaultKind.TheVariants.{BadVersion, TransactionTooNew}
 use Rattle.gds_sound.specs.Stands.{items_from, items_of}
 use Rattle.gds_pack.specs.Unpacked.{leaf_items, index_items, end_of, entries_of}
+use Rattle.gds_law.proofs.RankLemmas.{through_any}
 use Rattle.gds_sound.proofs.BlockLemmas.{nil_parts, map_nil, through_nil, filter_nil, nil_filter}
 use Rattle.gds_tree.specs.RightBlock.{UsesSame, IsStamped}
 
 -- ---- whether the head ends the reading
 
-any_through : {A : Type 0} (test : A → Bool) (xs : List A) → list_any test (through_first test xs) ≡ list_any test xs
-any_through test [] = refl
-any_through {A} test (x ∷ xs) = by (test x) refl (any_through test xs)
-  where
-    by : (t : Bool) → test x ≡ t → list_any test (through_first test xs) ≡ list_any test xs
-        → list_any test (if t then x ∷ [] else x ∷ through_first test xs) ≡ (test x || list_any test xs)
-    by true e next = ap (λ b. b || false) e ∙ sym (ap (λ b. b || list_any test xs) e)
-    by false e next = ap (λ b. test x || b) next
-
--- Two lists that are filtered out of one have an element that passes where each element does in the one as in the other.
+-- Two lists that are filtered out of one have an element that passes where each element does in the one as in the
+-- other.
 any_filtered : {A : Type 0} (test p q : A → Bool) (xs : List A)
     → AllByRecursion (λ x. (p x && test x) ≡ (q x && test x)) xs
     → list_any test (filter p xs) ≡ list_any test (filter q xs)
@@ -54,7 +47,7 @@ pub head_ends : (b : BlockReading) (x y : List ℕ)
     → list_any ends (kinds_of_head b x) ≡ list_any ends (kinds_of_head b y)
 unfolding kinds_of_head
 head_ends b x y =
-    any_through ends (filter (head_holds b x) head_kinds)
+    through_any ends (filter (head_holds b x) head_kinds)
     ∙ any_filtered ends (head_holds b x) (head_holds b y) head_kinds (
       and_right (head_holds b x BadVersion) false refl ∙ sym (and_right (head_holds b y BadVersion) false refl),
       (
@@ -63,7 +56,7 @@ head_ends b x y =
         (refl, (refl, (refl, (refl, (refl, tt))))),
       ),
     )
-    ∙ sym (any_through ends (filter (head_holds b y) head_kinds))
+    ∙ sym (through_any ends (filter (head_holds b y) head_kinds))
 
 -- ---- two blocks that use the same bytes
 

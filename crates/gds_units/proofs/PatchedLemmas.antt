@@ -11,7 +11,8 @@ use Rattle.host_model.specs.Disk.{written}
 use Rattle.gds_header.specs.Fields.{fields_of, file_length_of, image_length}
 use Rattle.gds_header.specs.declared.header.Header.{Header}
 use Rattle.gds_header.proofs.EndingLemmas.{fields_of-front}
-use Rattle.gds_images.proofs.WrittenLemmas.{length-written_within, written_before, written_behind, written_within}
+use Rattle.host_model.proofs.FileLemmas.{written-before}
+use Rattle.gds_images.proofs.WrittenLemmas.{length-written_within, written_behind, written_within}
 use Rattle.gds_epoch.specs.Epoch.{database_of}
 use Rattle.gds_epoch.specs.Waiting.{LiesWithin, WaitingUnit, patched, place_of}
 
@@ -29,9 +30,9 @@ take-written n at bytes file within long =
     get_or-take n (written at bytes file) i 0 here
     ∙ ⊎_elim
     (λ (before : i < at).
-    written_before at bytes file i (omega (arith, here, long)) before
+    written-before at bytes file i (omega (arith, here, long)) before
     ∙ sym (get_or-take n file i 0 here)
-    ∙ sym (written_before at bytes (take n file) i (omega (arith, here, front)) before))
+    ∙ sym (written-before at bytes (take n file) i (omega (arith, here, front)) before))
     (λ (from : at ≤ i). ⊎_elim
     (λ (inside : i < at + length bytes).
     written_within at bytes file i (omega (arith, within, long)) from inside

@@ -102,7 +102,8 @@ module _ (b : BlockReading) (s : PlacedRecord) where
                                             clean.points),
                                         (
                                           as_keyed ValueTooLong refl (ap
-                                              (λ t. not t && nat_lt b.header.value_max (length (rest_of b s))) clean.points
+                                              (λ t. not t && nat_lt b.header.value_max (length (rest_of b s)))
+                                              clean.points
                                               ∙ clean.value),
                                           (
                                             no_pointer _,
