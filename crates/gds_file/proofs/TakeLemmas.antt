@@ -281,7 +281,8 @@ module _ (before after : List ℕ) (n : ℕ) (t : Takes before after n) where
     unfolding is_busy
     busy_else m other = λ i. nat_lt m (total_same i) && (pair m other i == 0)
       where
-        pair : (m : ℕ) → m ≢ n → pair_of (map_of after (m / 512)) (m % 512) ≡ pair_of (map_of before (m / 512)) (m % 512)
+        pair : (m : ℕ) → m ≢ n → pair_of (map_of after (m / 512)) (m % 512)
+            ≡ pair_of (map_of before (m / 512)) (m % 512)
         pair m other = elim (cases_eq (m / 512) mine) [
           | inl same ↦
               let apart : m % 512 ≢ place = λ e. other (omega (arith, e, same)) in
@@ -292,7 +293,8 @@ module _ (before after : List ℕ) (n : ℕ) (t : Takes before after n) where
 
     busy_here : is_busy after n ≡ true
     busy_here =
-        busy_by_pair after n (omega (arith, is.within, total_same)) ∙ eq-eqb (pair_of (map_of after mine) place) 0 pair_taken
+        busy_by_pair after n (omega (arith, is.within, total_same))
+        ∙ eq-eqb (pair_of (map_of after mine) place) 0 pair_taken
 
     pub take_is_reshape : Reshapes before after [] (n ∷ [])
     take_is_reshape = record {

@@ -214,7 +214,8 @@ AreSized-index level previous (i ∷ j ∷ is) before (next, four, more) room =
       AreSized-index level i.key (j ∷ is) (inr next.is_key) more (omega arith),
     )
 
-pub AreSized-packable : (level : ℕ) (is : List Item) → ArePackable level is → packed_size is < 2 ^ 16 → AreSized level [] is
+pub AreSized-packable : (level : ℕ) (is : List Item) → ArePackable level is → packed_size is < 2 ^ 16
+    → AreSized level [] is
 AreSized-packable zero is h room = AreSized-leaves [] is (inl refl) h (omega arith)
 AreSized-packable (suc level) is h room = AreSized-index level [] is (inl refl) h (omega arith)
 

@@ -304,21 +304,22 @@ unfolding all_blocks
 counts_from_apart image zero v x h = omega arith
 counts_from_apart image (suc n) v x h =
     elim (cases_eq x v.block) [
-      | inl e ↦ elim (cases_lt 0 (count x (flat_map (λ (c : Child). all_blocks image n c.visit) (children_at image v)))) [
-        | inr none ↦ omega (
-          arith,
-          none,
-          counted_here x v.block (flat_map (λ (c : Child). all_blocks image n c.visit) (children_at image v)) e,
-        )
-        | inl some ↦
-            let c = counted_from x (λ (c : Child). all_blocks image n c.visit) (children_at image v) some in
-            let k = counted_ends image n c.0.visit x c.2 in
-            absurd (no_steps (h [] ((
-              v.block,
-              c.0.offset,
-            ) ∷ k.path) v k.visit refl (step_leads image v c.0 k.path k.visit c.1 k.leads) (sym e
-            ∙ sym k.same)))
-      ]
+      | inl e ↦ elim (cases_lt 0 (count x (flat_map (λ (c : Child). all_blocks image n c.visit)
+          (children_at image v)))) [
+            | inr none ↦ omega (
+              arith,
+              none,
+              counted_here x v.block (flat_map (λ (c : Child). all_blocks image n c.visit) (children_at image v)) e,
+            )
+            | inl some ↦
+                let c = counted_from x (λ (c : Child). all_blocks image n c.visit) (children_at image v) some in
+                let k = counted_ends image n c.0.visit x c.2 in
+                absurd (no_steps (h [] ((
+                  v.block,
+                  c.0.offset,
+                ) ∷ k.path) v k.visit refl (step_leads image v c.0 k.path k.visit c.1 k.leads) (sym e
+                ∙ sym k.same)))
+          ]
       | inr m ↦
           let each : (c : Child) → IsIn (children_at image v) c → count x (all_blocks image n c.visit) ≤ 1 =
           λ c i. counts_from_apart image n c.visit x (apart_below image v c i h) in

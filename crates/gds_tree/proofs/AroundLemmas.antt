@@ -85,7 +85,8 @@ module _ (image : List ℕ) (i : IsImage image) where
   }
 
   -- one record more in front
-  around_more : (v : Visit) (n level : ℕ) (a b : List Item) (e : Item) (t : Tree) (below : Tree) (steps : Steps) (w : Visit)
+  around_more : (v : Visit) (n level : ℕ) (a b : List Item) (e : Item) (t : Tree) (below : Tree) (steps : Steps)
+      (w : Visit)
       → length steps + level ≡ n → HasEntries image v (suc n) (a ++ e ∷ b)
       → trees_below image v n v.low (a ++ e ∷ b) ≡ Some below → t ≡ index_tree v below
       → ((s : Tree) → sound_tree image (length steps + level) (visit_below v n (low_behind v.low a) e) ≡ Some s
@@ -111,7 +112,8 @@ module _ (image : List ℕ) (i : IsImage image) where
             let front = kept_left image new (v.block ∷ p.first.blocks) r.before.blocks kept in
             let reach = all_weaker (IsLawfulEntry (fields_of image) v (suc n))
             (λ (f : Item). u32_at f.rest 0 < (fields_of new).total) (a ++ e ∷ b)
-            (λ f l. let low = (pointers (fields_of image) v v.role n f.rest l.rest).leads.within in omega arith) lawful in
+            (λ f l. let low = (pointers (fields_of image) v v.role n f.rest l.rest).leads.within in omega arith)
+            lawful in
             let low = has.there in
             let now : HasEntries new v (suc n) (a ++ e ∷ b) =
             entries_kept image new i j sizes v (suc n) (a ++ e ∷ b) has (omega arith)
@@ -128,7 +130,8 @@ module _ (image : List ℕ) (i : IsImage image) where
             (kept_left image new r.behind.blocks q.second.blocks kept') inner k in
             let all = below_append new v n v.low a (e ∷ b)
             ∙ some_both (trees_below new v n v.low a) _ p.first (joined (around r.before inner r.behind) q.second) first
-            (some_both (sound_tree new n c) (trees_below new v n (Some e.key) b) (around r.before inner r.behind) q.second
+            (some_both (sound_tree new n c) (trees_below new v n (Some e.key) b)
+            (around r.before inner r.behind) q.second
             child last) in
             let up : suc (length steps) + level ≡ suc n = omega arith in
             ap (λ m. sound_tree new m v) up

@@ -61,7 +61,8 @@ bytes_are level at left previous (e ∷ es) all (well, is, rest) long =
     let fits = Fits-from_well_sized level left well in
     let size : ℕ = block.size_of left in
     let count : shared previous e.key ≡ u16_at left 2 = ap (λ (r : Record). r.count) is in
-    let body : drop (shared previous e.key) e.key ++ e.rest ≡ drop 4 (take size left) = ap (λ (r : Record). r.body) is in
+    let body : drop (shared previous e.key) e.key ++ e.rest
+    ≡ drop 4 (take size left) = ap (λ (r : Record). r.body) is in
     let same : record_size previous e ≡ size =
     omega (
       arith,
@@ -78,7 +79,8 @@ bytes_are level at left previous (e ∷ es) all (well, is, rest) long =
     let first : take size left ≡ record_bytes previous e =
     first_bytes left size all refl (omega (arith, fits.least)) fits.within
     ∙ (λ i. u16_bytes (size_is i) ++ u16_bytes (count_is i) ++ body_is i)
-    ∙ sym (append_assoc (u16_bytes (record_size previous e) ++ u16_bytes (shared previous e.key)) (drop (shared previous e.key) e.key) e.rest) in
+    ∙ sym (append_assoc (u16_bytes (record_size previous e) ++ u16_bytes (shared previous e.key))
+    (drop (shared previous e.key) e.key) e.rest) in
     let next : at + size ≡ at + record_size previous e = omega arith in
     let more = bytes_are level (at + record_size previous e) (drop size left) e.key es
     (All-drop (λ b. b < 256) size left all)

@@ -6,7 +6,8 @@ use Rattle.std.specs.Prelude.{◌^◌, nat_lt, nat_le, is_none, unwrap_or}
 use Rattle.std.specs.List.{list_any}
 use Rattle.std.specs.Option.{option_map_or}
 use Rattle.std.specs.Ordering.{is_lt}
-use Rattle.std.proofs.lemmas.Bool.{cond-true, cond-false, cond_both, eq-eqb, ne_eqb, le-ltb, lt-leb, and_left, and_right}
+use Rattle.std.proofs.lemmas.Bool.{cond-true, cond-false, cond_both, eq-eqb, ne_eqb, le-ltb, lt-leb, and_left}
+use Rattle.std.proofs.lemmas.Bool.{and_right}
 use Rattle.std.proofs.lemmas.Bool.{not_from_true, and_parts, cases_Bool}
 use Rattle.std.proofs.lemmas.List.{take-append-drop, take_at, drop_at, drop_all}
 use Rattle.std.proofs.Math.Seq.{take-append-add}
@@ -119,7 +120,8 @@ module _ (b : BlockReading) (at : ℕ) (previous : List ℕ) (e : Item) (before 
 
   right_count : keyed_holds b (seen previous (packed_record at previous e)) WrongCount ≡ false
   right_count =
-      not_from_true _ (eq-eqb (shared previous e.key) (shared previous (key_of b (seen previous (packed_record at previous e))))
+      not_from_true _ (eq-eqb (shared previous e.key)
+      (shared previous (key_of b (seen previous (packed_record at previous e))))
       (ap (shared previous) (sym key_is)))
 
   -- ---- its pointer
@@ -128,7 +130,8 @@ module _ (b : BlockReading) (at : ℕ) (previous : List ℕ) (e : Item) (before 
       → has_pointer b (seen previous (packed_record at previous e)) test ≡ false
   points_to test h =
       let s : PlacedRecord = seen previous (packed_record at previous e) in
-      ap (λ o. option_map_or test o false) (cond-false (is_last b s) (Some (u32_at (packed_record at previous e).body 0)) _ l)
+      ap (λ o. option_map_or test o false) (cond-false (is_last b s)
+      (Some (u32_at (packed_record at previous e).body 0)) _ l)
       ∙ cond_both (points b && (length (rest_of b s) == 4)) (Some (u32_at (rest_of b s) 0)) None
       (λ o. option_map_or test o false ≡ false)
       (λ k. ap (λ r. test (u32_at r 0)) rest_is
@@ -171,8 +174,10 @@ module _ (b : BlockReading) (at : ℕ) (previous : List ℕ) (e : Item) (before 
   keyed_kind : (kind : FaultKind) → keyed_holds b (seen previous (packed_record at previous e)) kind ≡ false
   keyed_kind FirstCount = first_count
   keyed_kind CountTooLarge = later_count
-  keyed_kind KeyTooLong = ap (λ o. is_none o && nat_lt b.header.key_max (length (full_of (seen previous (packed_record at previous e))))) end_is
-  keyed_kind KeyWithoutEnd = ap (λ o. is_none o && nat_le (length (full_of (seen previous (packed_record at previous e)))) b.header.key_max) end_is
+  keyed_kind KeyTooLong = ap (λ o. is_none o && nat_lt b.header.key_max
+      (length (full_of (seen previous (packed_record at previous e))))) end_is
+  keyed_kind KeyWithoutEnd = ap (λ o. is_none o && nat_le
+      (length (full_of (seen previous (packed_record at previous e)))) b.header.key_max) end_is
   keyed_kind WrongCount = right_count
   keyed_kind KeyOutOfOrder =
       not_from_true _ (ap (λ k. is_below previous k) key_is ∙ ap is_lt next.above)
@@ -230,7 +235,8 @@ module _ (b : BlockReading) (at : ℕ) (previous : List ℕ) (e : Item) (none : 
       → has_pointer b (seen previous (packed_record at previous e)) test ≡ false
   star_points test h =
       let s : PlacedRecord = seen previous (packed_record at previous e) in
-      ap (λ o. option_map_or test o false) (cond-true (is_last b s) (Some (u32_at (packed_record at previous e).body 0)) _ l)
+      ap (λ o. option_map_or test o false) (cond-true (is_last b s)
+      (Some (u32_at (packed_record at previous e).body 0)) _ l)
       ∙ ap (λ r. test (u32_at r 0)) star_body ∙ h
 
   star_kinds : NoPointerKind b.header.total (2 ^ 31) (u32_at e.rest 0)

@@ -14,7 +14,8 @@ use Rattle.gds_law.specs.BlockReading.{BlockReading, PlacedRecord, is_last, size
 use Rattle.gds_law.specs.BlockReading.{has_values, points}
 use Rattle.gds_law.specs.Record.{holds, keyed_holds, last_holds}
 use Rattle.gds_law.specs.declared.kind.FaultKind.{FaultKind}
-use Rattle.gds_law.specs.declared.kind.FaultKind.TheVariants.{StarSize, StarCount, KeyTooLong, KeyWithoutEnd, WrongCount}
+use Rattle.gds_law.specs.declared.kind.FaultKind.TheVariants.{StarSize, StarCount, KeyTooLong, KeyWithoutEnd}
+use Rattle.gds_law.specs.declared.kind.FaultKind.TheVariants.{WrongCount}
 use Rattle.gds_law.specs.declared.kind.FaultKind.TheVariants.{DirectorySubscript, WrongGlobal, KeyAboveBound}
 use Rattle.gds_law.specs.declared.kind.FaultKind.TheVariants.{KeyBelowBound, RestNotPointer, ValueTooLong}
 use Rattle.m_key.specs.KeyEnd.{shared}
@@ -100,7 +101,8 @@ module _ (b : BlockReading) (s : PlacedRecord) (c : IsCleanRecord b s) (l : is_l
   pointer_is due =
       let four : length (rest_of b s) ≡ 4 =
       eqb-true (length (rest_of b s)) 4
-      (not-false _ (ap (λ t. t && not (length (rest_of b s) == 4)) (sym due) ∙ none_keyed 17 RestNotPointer refl refl)) in
+      (not-false _ (ap (λ t. t && not (length (rest_of b s) == 4)) (sym due)
+      ∙ none_keyed 17 RestNotPointer refl refl)) in
       record {
         size = four;
         leads = number_from b (u32_at (rest_of b s) 0)

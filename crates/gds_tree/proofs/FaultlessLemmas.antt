@@ -113,8 +113,10 @@ module _ (h : Header) (v : Visit) (block : List ℕ) (es : List Item) (limits : 
 
 -- ---- what is packed
 
-module _ (h : Header) (v : Visit) (level tn : ℕ) (es : List Item) (limits : IsWithinLimits h) (lawful : IsLawful h v level es)
-    (fits : packed_size es ≤ h.block_size) (due : IsDueLevel v.level level) (low : tn < h.tn) (small : tn < 2 ^ 64) where
+module _ (h : Header) (v : Visit) (level tn : ℕ) (es : List Item) (limits : IsWithinLimits h)
+    (lawful : IsLawful h v level es)
+    (fits : packed_size es ≤ h.block_size) (due : IsDueLevel v.level level) (low : tn < h.tn)
+    (small : tn < 2 ^ 64) where
   has_head : HasHead (block_bytes es level tn h.block_size) level (packed_size es) tn
   unfolding block_bytes
   has_head =

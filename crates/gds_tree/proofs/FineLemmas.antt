@@ -38,7 +38,8 @@ before_next at previous e before key =
 abbrev pub Lawful : BlockReading → List Item → Type 0
 Lawful b es = AllByRecursion (IsLawfulEntry b.header b.visit b.level) es
 
-module _ (b : BlockReading) (bytes : List ℕ) (total : b.header.total ≤ 2 ^ 31) (ended : bytes_left bytes b.used ≡ []) where
+module _ (b : BlockReading) (bytes : List ℕ) (total : b.header.total ≤ 2 ^ 31)
+    (ended : bytes_left bytes b.used ≡ []) where
   pub record_end : (at : ℕ) (previous : List ℕ) (e : Item)
       → at + size_of (seen previous (packed_record at previous e)) ≡ at + record_size previous e
   record_end at previous e = omega (arith, packed_length at previous e)

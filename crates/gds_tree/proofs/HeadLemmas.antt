@@ -3,7 +3,8 @@ use Rattle.std.proofs.Common.{◌≡◌, ℕ, ◌≤◌, ◌==◌, true, false, 
 use Rattle.std.proofs.Common.{filter, Option, None, Some, inl, inr, refl, sym, ap, subst, ◌∙◌, arith}
 use Rattle.std.specs.Prelude.{slice_get, is_none}
 use Rattle.std.proofs.lemmas.Bool.{not-false, eqb-true, eq-eqb, ne_eqb, ltb-false, le-ltb, lt-leb, leb-false, and_parts}
-use Rattle.std.proofs.lemmas.Bool.{and_left, and_right, and_from, or_parts, or_from, not_from_true, eqb-false, cases_Bool}
+use Rattle.std.proofs.lemmas.Bool.{and_left, and_right, and_from, or_parts, or_from, not_from_true, eqb-false}
+use Rattle.std.proofs.lemmas.Bool.{cases_Bool}
 use Rattle.gds_block.specs.Block.{version_of, reserved_of, level_of, used_of, tn_of}
 use Rattle.gds_header.specs.declared.header.Header.{Header}
 use Rattle.gds_header.specs.Kinds.{through_first}
@@ -75,7 +76,8 @@ module _ (h : Header) (v : Visit) (block : List ℕ) (none : kinds_of_head (read
   unfolding kinds_of_head
   none_head n kind e =
       filter_nil (head_holds (reading_of h v block) block) head_kinds
-      (through_nil ends (filter (head_holds (reading_of h v block) block) head_kinds) none) kind (in_at head_kinds n kind e)
+      (through_nil ends (filter (head_holds (reading_of h v block) block) head_kinds) none) kind
+      (in_at head_kinds n kind e)
 
   pub used_least : 16 ≤ used_of block
   used_least = ltb-false (used_of block) 16 (none_head 2 UsedTooSmall refl)
@@ -137,4 +139,5 @@ module _ (h : Header) (v : Visit) (block : List ℕ) (size : ℕ) (head : HasRig
   pub no_head_kinds : kinds_of_head (reading_of h v block) block ≡ []
   unfolding kinds_of_head
   no_head_kinds =
-      ap (through_first ends) (nil_filter (head_holds (reading_of h v block) block) head_kinds (λ kind i. no_head_kind kind))
+      ap (through_first ends) (nil_filter (head_holds (reading_of h v block) block) head_kinds
+      (λ kind i. no_head_kind kind))

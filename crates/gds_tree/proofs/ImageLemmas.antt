@@ -35,15 +35,18 @@ block_long image n i low =
 pub entries_at : (image : List ℕ) (v : Visit) (level : ℕ) → IsImage image → v.block < (fields_of image).total
     → level_at image v ≡ level → kinds_at image v ≡ [] → (es : List Item) × HasEntries image v level es
 entries_at image v level i low e none =
-    let r = right_from (fields_of image) v (block_of image v.block) i.limits.key_to (block_long image v.block i low) none in
+    let r = right_from (fields_of image) v (block_of image v.block) i.limits.key_to
+    (block_long image v.block i low) none in
     (r.0, record { there = low; level = e; right = r.1 })
 
 pub tree_entries : (image : List ℕ) (v : Visit) (level : ℕ) (t : Tree) → IsImage image
-    → v.block < (fields_of image).total → sound_tree image level v ≡ Some t → (es : List Item) × HasEntries image v level es
+    → v.block < (fields_of image).total → sound_tree image level v ≡ Some t → (es : List Item)
+    × HasEntries image v level es
 tree_entries image v level t i low h =
     entries_at image v level i low (tree_level image level v t h) (tree_clean image level v t h)
 
-module _ (image : List ℕ) (v : Visit) (level : ℕ) (es : List Item) (i : IsImage image) (has : HasEntries image v level es) where
+module _ (image : List ℕ) (v : Visit) (level : ℕ) (es : List Item) (i : IsImage image)
+    (has : HasEntries image v level es) where
   pub has_none : kinds_at image v ≡ []
   has_none = no_kinds (fields_of image) v (block_of image v.block) es i.limits has.right
 
@@ -57,7 +60,8 @@ module _ (image : List ℕ) (v : Visit) (level : ℕ) (es : List Item) (i : IsIm
   has_items z = items_right (fields_of image) v (block_of image v.block) es i.limits has.right (has.level ∙ z)
 
 -- The trees below an index block's children are those below its entries.
-pub forest_below : (image : List ℕ) (v : Visit) (level at : ℕ) (previous : List ℕ) (low : Option (List ℕ)) (es : List Item)
+pub forest_below : (image : List ℕ) (v : Visit) (level at : ℕ) (previous : List ℕ) (low : Option (List ℕ))
+    (es : List Item)
     → forest_of (sound_tree image level) (index_children v level at previous low es) ≡ trees_below image v level low es
 forest_below image v level at previous low [] = refl
 forest_below image v level at previous low (e ∷ es) =

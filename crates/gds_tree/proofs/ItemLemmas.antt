@@ -65,7 +65,8 @@ pub above_key : (level : ℕ) (low : Option (List ℕ)) (k key : List ℕ) → I
 above_key level None k key h m = tt
 above_key level (Some low) k key h m = most_most low k key (most_from low k (inl (below_less low k h))) m
 
-below_some : (high : Option (List ℕ)) (k key : List ℕ) → (k ≡ [] → ⊥) → IsBelowHigh (high_below high k) key → Below key k
+below_some : (high : Option (List ℕ)) (k key : List ℕ) → (k ≡ [] → ⊥) → IsBelowHigh (high_below high k) key
+    → Below key k
 below_some high [] key some h = absurd (some refl)
 below_some high (b ∷ k) key some h = h
 
@@ -150,7 +151,8 @@ module _ (image : List ℕ) (i : IsImage image) where
         leaves = leaves_both e.key xs ys a.leaves b.leaves first second;
         each = all_both (IsLawfulEntry h (from_low v low) 0) xs ys
             (each_moved h c (from_low v low) xs refl
-            (λ key k. (k.above, below_to_high v.high e.key key below (below_some v.high e.key key some k.below))) a.each)
+            (λ key k. (k.above, below_to_high v.high e.key key below (below_some v.high e.key key some k.below)))
+            a.each)
             (each_moved h d (from_low v low) ys refl (λ key k. (above_key 0 low e.key key above k.above, k.below))
             b.each);
         none = λ empty. absurd (high_not_none v.high e.key some (a.none (nil_parts xs ys empty).0).high);

@@ -269,7 +269,8 @@ second_index previous key e right (g ∷ b) size index above = (
   index.2,
 )
 
-pub entry_parted : (h : Header) (v : Visit) (level : ℕ) (a : List Item) (e : Item) (b : List Item) (key left right : List ℕ)
+pub entry_parted : (h : Header) (v : Visit) (level : ℕ) (a : List Item) (e : Item) (b : List Item)
+    (key left right : List ℕ)
     → IsLawful h v (suc level) (a ++ e ∷ b) → IsKey key → IsLawfulKey h v (suc level) key → Below (key_behind [] a) key
     → (e.key ≢ [] → Below key e.key) → IsPointer h left → IsPointer h right
     → IsLawful h v (suc level) (a ++ record { key = key; rest = left } ∷ record { key = e.key; rest = right } ∷ b)

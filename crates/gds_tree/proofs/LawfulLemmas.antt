@@ -15,7 +15,8 @@ use Rattle.gds_tree.specs.Below.{below_key, from_key, as_star}
 use Rattle.gds_tree.proofs.TestLemmas.{below_less, most_from}
 use Rattle.gds_tree.proofs.BelowLemmas.{all_left, all_right, all_both}
 use Rattle.gds_tree.proofs.WidenLemmas.{most_same}
-use Rattle.gds_tree.proofs.ListLemmas.{Keys, leaves_first, leaves_left, leaves_right, leaves_join, keys_below, keys_above}
+use Rattle.gds_tree.proofs.ListLemmas.{Keys, leaves_first, leaves_left, leaves_right, leaves_join, keys_below}
+use Rattle.gds_tree.proofs.ListLemmas.{keys_above}
 use Rattle.gds_tree.proofs.ListLemmas.{index_first, index_front, index_join, KeyedAbove, keyed_above}
 
 -- ---- one entry at another visit

@@ -54,7 +54,8 @@ pub record IsFront (p : List ℕ) (a b : List Item) : Type 0 where
   pub fours : Fours a
   pub rest : AreIndex (key_behind p a) b
 
-pub index_front : (p : List ℕ) (a : List Item) (f : Item) (b : List Item) → AreIndex p (a ++ f ∷ b) → IsFront p a (f ∷ b)
+pub index_front : (p : List ℕ) (a : List Item) (f : Item) (b : List Item) → AreIndex p (a ++ f ∷ b)
+    → IsFront p a (f ∷ b)
 index_front p [] f b h = record { leaves = tt; fours = tt; rest = h }
 index_front p (e ∷ []) f b h = record { leaves = (h.0, tt); fours = (h.1, tt); rest = h.2 }
 index_front p (e ∷ g ∷ a) f b h =
@@ -73,7 +74,8 @@ index_join p (e ∷ a) b h fours k = index_cons p e (a ++ b) h.0 fours.0 (index_
 
 -- ---- keys below and above one
 
-pub leaves_less : (p : List ℕ) (a : List Item) (f : Item) (b : List Item) → AreLeaves p (a ++ f ∷ b) → cmp p f.key ≡ Less
+pub leaves_less : (p : List ℕ) (a : List Item) (f : Item) (b : List Item) → AreLeaves p (a ++ f ∷ b)
+    → cmp p f.key ≡ Less
 leaves_less p [] f b h = h.0.above
 leaves_less p (e ∷ a) f b h = cmp_total.trans p e.key f.key h.0.above (leaves_less e.key a f b h.1)
 

@@ -1,6 +1,7 @@
 -- Records that are read as entries and need no more bytes than these packed are the packed ones.
 use Rattle.std.proofs.Common.{◌≡◌, ℕ, zero, suc, ◌+◌, ◌≤◌, ◌==◌, Bool, true, false, ◌&&◌, List, [], ◌∷◌, ◌++◌}
-use Rattle.std.proofs.Common.{length, take, drop, if◌then◌else◌, Option, None, Some, inl, inr, refl, sym, ap, subst, ◌∙◌}
+use Rattle.std.proofs.Common.{length, take, drop, if◌then◌else◌, Option, None, Some, inl, inr, refl, sym, ap, subst}
+use Rattle.std.proofs.Common.{◌∙◌}
 use Rattle.std.proofs.Common.{arith}
 use Rattle.std.specs.Prelude.{⊤, nat_eq, nat_lt, option_map}
 use Rattle.std.proofs.lemmas.Bool.{cond-true, cond-false, eqb-true, eq-eqb, ltb-true, and_parts, or_cases, cases_Bool}
@@ -15,7 +16,8 @@ use Rattle.m_key.specs.KeyEnd.{key_len, key_within, end_within, HasOpenFronts, s
 use Rattle.m_key.proofs.KeyEndLemmas.{shared-nil, shared-le, HasOpenFronts-nil, open_front, key_within-end_within}
 use Rattle.m_key.proofs.KeyEndLemmas.{key_within-le, key_len-within}
 use Rattle.gds_pack.specs.Packed.{record_size, records_size, packed_size, packed_record, packed_records}
-use Rattle.gds_pack.specs.Unpacked.{is_count, leaf_item, index_item, star_item, leaf_items, index_items, end_of, entries_of}
+use Rattle.gds_pack.specs.Unpacked.{is_count, leaf_item, index_item, star_item, leaf_items, index_items, end_of}
+use Rattle.gds_pack.specs.Unpacked.{entries_of}
 use Rattle.gds_pack.proofs.UnpackLemmas.{IfNone-leaf_item, IfSome-IsKeyPart, leaf_item-unlawful}
 use Rattle.gds_pack.proofs.UnpackLemmas.{HasOpenFronts-leaf_item}
 use Rattle.gds_law.proofs.PathLemmas.{some_if, some_then}
@@ -76,7 +78,8 @@ item_needs : (previous : List ℕ) (r : Record) (i : Item) → HasOpenFronts pre
 item_needs previous r i fronts h = by (is_count previous r.count) refl
   where
     found : (lawful : is_count previous r.count ≡ true) (o : Option ℕ)
-        → key_within 255 (full_of previous r) ≡ option_map (λ n. length (take r.count previous) + n) o → Needs previous r i
+        → key_within 255 (full_of previous r) ≡ option_map (λ n. length (take r.count previous) + n) o
+        → Needs previous r i
     found lawful None e = absurd (cc (IfNone-leaf_item previous r fronts lawful None (λ none. e), h))
     found lawful (Some n) e =
         let first : List ℕ = take r.count previous in

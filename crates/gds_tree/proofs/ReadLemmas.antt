@@ -21,7 +21,8 @@ use Rattle.gds_pack.specs.Packed.{record_size, records_size, packed_record, pack
 use Rattle.gds_pack.specs.Packable.{IsNext, AreLeaves, AreIndex}
 use Rattle.gds_sound.proofs.BlockLemmas.{nil_parts, map_nil, seen, clean_record, not_last}
 use Rattle.gds_tree.specs.Lawful.{IsLawfulEntry}
-use Rattle.gds_tree.proofs.EntryLemmas.{entry_at, record_is, next_is, lawful_entry, rest_size, star_at, star_is, star_size}
+use Rattle.gds_tree.proofs.EntryLemmas.{entry_at, record_is, next_is, lawful_entry, rest_size, star_at, star_is}
+use Rattle.gds_tree.proofs.EntryLemmas.{star_size}
 use Rattle.gds_tree.proofs.EntryLemmas.{lawful_star}
 
 -- These are the records of lawful entries from an offset on and behind a key, up to the used count.
@@ -101,7 +102,8 @@ is_first_of bytes b level at left r same used well e =
     }
 
 -- no record where nothing is left
-none_behind : (level at : ℕ) (left : List ℕ) (rs : List Record) → AreRecords level at left rs → length left ≡ 0 → rs ≡ []
+none_behind : (level at : ℕ) (left : List ℕ) (rs : List Record) → AreRecords level at left rs → length left ≡ 0
+    → rs ≡ []
 none_behind level at left [] a h = refl
 none_behind level at left (r ∷ rs) a h =
     let fits = Fits-from_well_sized level left a.0 in

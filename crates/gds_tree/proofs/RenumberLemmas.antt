@@ -1,6 +1,7 @@
 -- A sound tree whose blocks get other numbers.
 use Rattle.std.proofs.Common.{◌≡◌, ℕ, zero, suc, ◌+◌, ◌^◌, ◌<◌, ◌≤◌, ◌==◌, List, [], ◌∷◌, ◌++◌, length}
-use Rattle.std.proofs.Common.{map, Option, Some, option_map, if◌then◌else◌, refl, sym, ap, subst, ◌∙◌, arith, append-nil}
+use Rattle.std.proofs.Common.{map, Option, Some, option_map, if◌then◌else◌, refl, sym, ap, subst, ◌∙◌, arith}
+use Rattle.std.proofs.Common.{append-nil}
 use Rattle.std.specs.Prelude.{All}
 use Rattle.std.specs.List.{AllByRecursion}
 use Rattle.std.proofs.lemmas.Bool.{cond_both}
@@ -39,7 +40,8 @@ module _ (old new : List ℕ) (number : ℕ → ℕ) (i : IsImage old) (j : IsIm
 
   leads : (rest : List ℕ) → IsPointer (fields_of old) rest
       → u32_at (u32_bytes (number (u32_at rest 0))) 0 ≡ number (u32_at rest 0)
-  leads rest p = pointer_read (number (u32_at rest 0)) (small (number (u32_at rest 0)) (numbers (u32_at rest 0) p.leads))
+  leads rest p = pointer_read (number (u32_at rest 0))
+      (small (number (u32_at rest 0)) (numbers (u32_at rest 0) p.leads))
 
   pointer_moved : (rest : List ℕ) → IsPointer (fields_of old) rest
       → IsPointer (fields_of new) (u32_bytes (number (u32_at rest 0)))
@@ -196,7 +198,8 @@ module _ (old new : List ℕ) (number : ℕ → ℕ) (i : IsImage old) (j : IsIm
             used = r.used ∙ right.head.used ∙ sym m.size;
             fits = omega (arith, m.size, right.head.fits, sizes.block_size);
           };
-          found = r.entries ∙ ap (option_map (renumbered_entries number v.role (level_of (block_of old v.block)))) right.found
+          found = r.entries ∙ ap (option_map (renumbered_entries number v.role (level_of (block_of old v.block))))
+              right.found
               ∙ ap (λ k. Some (renumbered_entries number v.role k es)) has.level;
           lawful = subst (λ k. IsLawful (fields_of new) (renumbered_visit number v) k fs) (sym height)
               (elsewhere (fields_of new) v (renumbered_visit number v) level fs m.lawful refl refl refl);
@@ -211,7 +214,8 @@ module _ (old new : List ℕ) (number : ℕ → ℕ) (i : IsImage old) (j : IsIm
   role_append (global name) xs ys = refl
 
   joined_moved : (role : TreeRole) (a b : Tree)
-      → joined (renumbered_tree number role a) (renumbered_tree number role b) ≡ renumbered_tree number role (joined a b)
+      → joined (renumbered_tree number role a) (renumbered_tree number role b)
+      ≡ renumbered_tree number role (joined a b)
   joined_moved role a b = sym (λ k. record {
     blocks = map-append number a.blocks b.blocks k;
     items = role_append role a.items b.items k;

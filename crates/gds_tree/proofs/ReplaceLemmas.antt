@@ -1,5 +1,6 @@
 -- Some entries of an index block are replaced by others.
-use Rattle.std.proofs.Common.{◌≡◌, ℕ, suc, ◌<◌, ◌≤◌, List, [], ◌∷◌, ◌++◌, Option, None, Some, Less, ◌⊎◌, inl, inr, refl, sym}
+use Rattle.std.proofs.Common.{◌≡◌, ℕ, suc, ◌<◌, ◌≤◌, List, [], ◌∷◌, ◌++◌, Option, None, Some, Less, ◌⊎◌, inl, inr, refl}
+use Rattle.std.proofs.Common.{sym}
 use Rattle.std.proofs.Common.{ap, subst, ◌∙◌, append_assoc}
 use Rattle.std.specs.List.{AllByRecursion}
 use Rattle.std.proofs.lemmas.List.Elements.{recursion_from_All}
@@ -59,7 +60,8 @@ lower_lower (Some a) (Some b) None h k = absurd k
 lower_lower (Some a) (Some b) (Some c) h k = most_most a b c h k
 
 -- behind some entries it is that of their last key
-behind_last : (low : Option (List ℕ)) (e : Item) (es : List Item) → low_behind low (e ∷ es) ≡ Some (key_behind [] (e ∷ es))
+behind_last : (low : Option (List ℕ)) (e : Item) (es : List Item)
+    → low_behind low (e ∷ es) ≡ Some (key_behind [] (e ∷ es))
 behind_last low e [] = refl
 behind_last low e (f ∷ es) = behind_last (Some e.key) f es
 
@@ -164,7 +166,8 @@ module _ (old new : List ℕ) (v : Visit) (level : ℕ) (a taken b put : List It
       by : (ps ts : List Item) → put ≡ ps → taken ≡ ts → NoHigher ps ts
           → IsLowerLow (low_behind v.low (a ++ put)) (low_behind v.low (a ++ taken))
       by [] ts s u k =
-          reduce (low_behind v.low a) (low_behind (low_behind v.low a) taken) (ap (low_behind (low_behind v.low a)) s) refl
+          reduce (low_behind v.low a) (low_behind (low_behind v.low a) taken)
+          (ap (low_behind (low_behind v.low a)) s) refl
           (behind taken refl)
       by (p ∷ ps) ts s u (inl none) = absurd (cc)
       by (p ∷ ps) [] s u (inr most) = absurd (whole p ps s (nothing_most (key_behind [] (p ∷ ps)) most))
@@ -202,7 +205,8 @@ pub replaced : (old new : List ℕ) (v : Visit) (level : ℕ) (a taken b put : L
     → KeepsBlocks old new behind.blocks → HasEntries new v (suc level) (a ++ put ++ b)
     → trees_below new v level (low_behind v.low a) put ≡ Some middle → NoHigher put taken
     → sound_tree new (suc level) v ≡ Some (index_tree v (around before middle behind))
-replaced old new v level a taken b put before middle behind i j sizes more has first last kept kept' now put_trees higher =
+replaced old new v level a taken b put before middle behind i j sizes more has first last kept kept' now put_trees
+    higher =
     let front = forest_grown old new v level v.low a before i j sizes more
     (all_left (IsLawfulEntry (fields_of old) v (suc level)) a taken
     (all_left (IsLawfulEntry (fields_of old) v (suc level)) (a ++ taken) b

@@ -65,7 +65,8 @@ module _ (old new : List ℕ) (v : Visit) (level : ℕ) (a : List Item) (m f : I
       let trees =
       sym (below_append old v level v.low front (f ∷ b))
       ∙ ap (trees_below old v level v.low) (regrouped ∙ sym same) ∙ x.trees in
-      let p = both_parts (trees_below old v level v.low front) (trees_below old v level (low_behind v.low front) (f ∷ b))
+      let p = both_parts (trees_below old v level v.low front)
+      (trees_below old v level (low_behind v.low front) (f ∷ b))
       x.below trees in
       let low : low_behind v.low front ≡ Some m.key = low_append v.low a (m ∷ []) in
       let whole : t ≡ index_tree v (joined p.first p.second) = x.is ∙ ap (index_tree v) p.is in
@@ -85,7 +86,8 @@ module _ (old new : List ℕ) (v : Visit) (level : ℕ) (a : List Item) (m f : I
       }
 
   module _ (left right : Visit) (parts : PartsAt v m.key left right)
-      (first : HasEntries new left (suc level) (a ++ as_star m ∷ [])) (last : HasEntries new right (suc level) (f ∷ b)) where
+      (first : HasEntries new left (suc level) (a ++ as_star m ∷ []))
+      (last : HasEntries new right (suc level) (f ∷ b)) where
     pub split_block : InTwoPieces new v level left right t
     split_block =
         let p = parted in

@@ -6,7 +6,8 @@ use Rattle.std.specs.List.{list_any, AllByRecursion}
 use Rattle.std.proofs.lemmas.Bool.{cond-false, and_right, or_from, not_from_true, eq-eqb, lt-leb}
 use Rattle.std.proofs.lemmas.List.{drop-drop}
 use Rattle.gds_block.specs.Block.{version_of, reserved_of, level_of, used_of, tn_of}
-use Rattle.gds_block.specs.Record.{Record, records_of, records_up_to, records_from, first_record, is_well_sized, bytes_left}
+use Rattle.gds_block.specs.Record.{Record, records_of, records_up_to, records_from, first_record, is_well_sized}
+use Rattle.gds_block.specs.Record.{bytes_left}
 use Rattle.gds_block.specs.Record as block
 use Rattle.gds_header.specs.declared.header.Header.{Header}
 use Rattle.gds_header.specs.Kinds.{through_first}

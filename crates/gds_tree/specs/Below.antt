@@ -28,7 +28,8 @@ as_star e = record { key = []; rest = e.rest }
 abbrev pub with_key : List ℕ → Item → Item
 with_key key e = record { key = key; rest = e.rest }
 
--- where an entry of an index block leads, whose children have this level, and below which the keys have this lower bound
+-- where an entry of an index block leads, whose children have this level, and below which the keys have this lower
+-- bound
 abbrev pub visit_below : Visit → ℕ → Option (List ℕ) → Item → Visit
 visit_below v level low e = record {
   block = u32_at e.rest 0;

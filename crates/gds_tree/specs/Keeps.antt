@@ -33,7 +33,8 @@ pub record IsWithinTotal (total : ℕ) (role : TreeRole) (t : Tree) : Type 0 whe
   pub blocks : All (λ n. n < total) t.blocks
   pub roots : RootsBelow total role t.items
 
--- Bounds are wider where the lower one isn't above the other lower one, and the upper one not below the other upper one.
+-- Bounds are wider where the lower one isn't above the other lower one, and the upper one not below the other upper
+-- one.
 abbrev pub IsLowerLow : Option (List ℕ) → Option (List ℕ) → Type 0
 IsLowerLow None low = Unit {0}
 IsLowerLow (Some wide) None = ⊥

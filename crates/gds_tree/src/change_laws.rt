@@ -1,4 +1,5 @@
-ghost use Rattle.std.specs.Prelude.{◌≡◌, ◌⊎◌, ◌<◌, ◌≤◌, ◌+◌, ◌++◌, ◌∷◌, [], ℕ, suc, List, Option, Some, length, drop, All};
+ghost use Rattle.std.specs.Prelude.{◌≡◌, ◌⊎◌, ◌<◌, ◌≤◌, ◌+◌, ◌++◌, ◌∷◌, [], ℕ, suc, List, Option, Some, length, drop};
+ghost use Rattle.std.specs.Prelude.{All};
 ghost use Rattle.gds_block.specs.Item.{Item};
 ghost use Rattle.gds_block.specs.Fields.{u32_at};
 ghost use Rattle.gds_header.specs.Fields.{fields_of, block_of};
@@ -31,7 +32,8 @@ pub fn replaced_entries()
         → sound_tree new (suc level) v ≡ Some (index_tree v (around before middle behind)) }
 {}
 
-/// Where a path leads from a visit to one further down in the same tree, the tree has there a tree of its own, with blocks
+/// Where a path leads from a visit to one further down in the same tree, the tree has there a tree of its own, with
+/// blocks
 /// and items before it and behind it, and another sound tree may stand in its place.
 pub fn tree_inside()
     ensures { (image : List ℕ) (v w : Visit) (path : Steps) (level : ℕ) (t : Tree) → IsImage image
@@ -39,7 +41,8 @@ pub fn tree_inside()
         → sound_tree image (length path + level) v ≡ Some t → IsAround image v path w level t }
 {}
 
-/// Where a root above level 1 with the star alone takes the entries of its one child, the tree is sound in the new image,
+/// Where a root above level 1 with the star alone takes the entries of its one child, the tree is sound in the new
+/// image,
 /// which keeps what stands below the child: one level lower, without the child's block and with the same items.
 pub fn collapsed_root()
     ensures { (old new : List ℕ) (v : Visit) (level : ℕ) (e : Item) (es : List Item) (t : Tree)
@@ -50,7 +53,8 @@ pub fn collapsed_root()
         → sound_tree new (suc level) v ≡ Some (record { blocks = v.block ∷ drop 2 t.blocks; items = t.items }) }
 {}
 
-/// Where the entries of an index block go into two blocks side by side, whose bounds a key parts, both pieces have sound
+/// Where the entries of an index block go into two blocks side by side, whose bounds a key parts, both pieces have
+/// sound
 /// trees in the new image, which keeps what stands below the block: together those that stood there.
 pub fn split_block()
     ensures { (old new : List ℕ) (v : Visit) (level : ℕ) (a : List Item) (m f : Item) (b : List Item) (t : Tree)

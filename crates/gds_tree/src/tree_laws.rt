@@ -26,7 +26,8 @@ pub fn tree_by_entries()
 {}
 
 /// A sound tree is so, with the same blocks and items, in an image that keeps the sizes and the tree's blocks, if the
-/// total is no smaller, or is above the tree's blocks and the roots that it names. So are the trees below lawful entries
+/// total is no smaller, or is above the tree's blocks and the roots that it names. So are the trees below lawful
+/// entries
 /// of an index block.
 pub fn kept_tree()
     ensures grown { (old new : List ℕ) (v : Visit) (level : ℕ) (t : Tree) → IsImage old → IsImage new
@@ -67,7 +68,8 @@ pub fn trees_in_parts()
     ensures three { (image : List ℕ) (v : Visit) (level : ℕ) (low : Option (List ℕ)) (a b : List Item) (e : Item)
         → trees_below image v level low (a ++ e ∷ b)
         ≡ both (trees_below image v level low a)
-        (both (sound_tree image level (visit_below v level (low_behind low a) e)) (trees_below image v level (Some e.key) b)) }
+        (both (sound_tree image level (visit_below v level (low_behind low a) e))
+        (trees_below image v level (Some e.key) b)) }
     ensures some { (a b : Option Tree) (x y : Tree) → a ≡ Some x → b ≡ Some y → both a b ≡ Some (joined x y) }
     ensures of_some { (a b : Option Tree) (t : Tree) → both a b ≡ Some t
         → (x y : Tree) × (a ≡ Some x) × (b ≡ Some y) × (t ≡ joined x y) }

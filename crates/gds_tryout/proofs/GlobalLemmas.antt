@@ -29,7 +29,8 @@ image_of file none = record {
       (none_of_header file none ShortFile (inr (inr (inr (inr (inr (inr (inl refl))))))));
 }
 
-pub tn_of_header : (file : List ℕ) → header_faults file ≡ [] → (1 ≤ (fields_of file).tn) × ((fields_of file).tn ≤ 2 ^ 63)
+pub tn_of_header : (file : List ℕ) → header_faults file ≡ [] → (1 ≤ (fields_of file).tn)
+    × ((fields_of file).tn ≤ 2 ^ 63)
 tn_of_header file faultless =
     let none = none_of_header file faultless BadTransactionNumber
     (inr (inr (inr (inr (inr (inr (inr (inr (inr (inl refl)))))))))) in

@@ -99,7 +99,12 @@ module _ (old : List ℕ) (number : ℕ) (at : LeafOf old number) where
       → count n (around before inner behind).blocks
       ≡ count n before.blocks + count n inner.blocks + count n behind.blocks
   in_parts before inner behind n =
-      omega (arith, count_append n (before.blocks ++ inner.blocks) behind.blocks, count_append n before.blocks inner.blocks)
+      omega (
+        arith,
+        count_append n (before.blocks ++ inner.blocks) behind.blocks,
+        count_append n before.blocks
+            inner.blocks,
+      )
 
   pub in_tree : InTree
   in_tree =
@@ -137,7 +142,8 @@ module _ (old : List ℕ) (number : ℕ) (at : LeafOf old number) where
 
   -- ---- other entries in its place
 
-  module _ (new : List ℕ) (r : Rewrites old new (number ∷ [])) (es : List Item) (now : HasEntries new at.visit 0 es) where
+  module _ (new : List ℕ) (r : Rewrites old new (number ∷ [])) (es : List Item)
+      (now : HasEntries new at.visit 0 es) where
     j : IsImage new
     j = rewritten_image old new (number ∷ []) i r
 

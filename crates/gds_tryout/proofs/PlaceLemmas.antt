@@ -91,7 +91,8 @@ module _ (file : List ℕ) (h : Header) (is : IsFile file h) where
   pub block_long : (n : ℕ) → n < h.total → 512 ≤ length (block_of file n)
   block_long n low =
       let all = block_within n low in
-      let least : 512 ≤ h.block_size = subst (λ (g : Header). 512 ≤ g.block_size) is.header is.whole.limits.block_from in
+      let least : 512 ≤ h.block_size = subst (λ (g : Header). 512 ≤ g.block_size) is.header is.whole.limits.block_from
+      in
       omega (
         arith,
         ap length (block_here n),

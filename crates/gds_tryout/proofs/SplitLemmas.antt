@@ -105,7 +105,8 @@ module _ (old mid new : List ℕ) (g : GlobalOf old) (free : ℕ) (s : SplitsLea
   -- ---- its blocks
 
   counts : (n : ℕ) → count n g.tree.blocks
-      ≡ count n (root.block ∷ []) + (count n in_parts.before.blocks + (count n (leaf ∷ []) + count n in_parts.behind.blocks))
+      ≡ count n (root.block ∷ []) + (count n in_parts.before.blocks +
+      (count n (leaf ∷ []) + count n in_parts.behind.blocks))
   counts n =
       let t = in_parts in
       omega (

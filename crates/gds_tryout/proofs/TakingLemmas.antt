@@ -55,7 +55,14 @@ module _ (old mid new : List ℕ) (number : ℕ) (left : Bool) (h : Header) (law
 
   master_long : length h.master ≡ 256
   master_long =
-      omega (arith, ap (λ (g : Header). length g.master) read, length-take 256 (drop 4096 new), length-drop 4096 new, new_long)
+      omega (
+        arith,
+        ap (λ (g : Header). length g.master) read,
+        length-take 256
+            (drop 4096 new),
+        length-drop 4096 new,
+        new_long,
+      )
 
   head_long : length (header_bytes h) ≡ 8192
   head_long = length-header_bytes h master_long

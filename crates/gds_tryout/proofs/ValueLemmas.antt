@@ -115,7 +115,8 @@ module _ (old new : List ℕ) (leaf : ℕ) (key value : List ℕ) (s : Sets old 
               (sets_item t.place.before.items t.place.behind.items);
         }
 
-  pub stands_after : (at : LeafOf old leaf) → All (λ b. b < 256) new → (m : Globals) (p : Place) → key ≡ key_bytes p.node
+  pub stands_after : (at : LeafOf old leaf) → All (λ b. b < 256) new → (m : Globals) (p : Place)
+      → key ≡ key_bytes p.node
       → StandsFor old m → StandsFor new (after m (set_value p value))
   stands_after at bytes m p is stands =
       let g = at.global in
@@ -156,7 +157,8 @@ module _ (old new : List ℕ) (h : Header) (leaf : ℕ) (key value : List ℕ) (
   map_done NoRoom s e at bytes m p is stands = absurd (cc)
 
 -- the new entries can be packed
-pub set_packable : (old : List ℕ) (h : Header) (leaf : ℕ) (at : LeafOf old leaf) (es new : List Item) (key value : List ℕ)
+pub set_packable : (old : List ℕ) (h : Header) (leaf : ℕ) (at : LeafOf old leaf) (es new : List Item)
+    (key value : List ℕ)
     → h ≡ fields_of old → entries_of (block_of old leaf) ≡ Some es → SetsValue es new key value
     → length value ≤ h.value_max → ArePackable 0 new
 set_packable old h leaf at es new key value header found sets short =

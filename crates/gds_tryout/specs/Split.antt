@@ -50,7 +50,8 @@ pub record KeepsItems (old new : List ℕ) (g : GlobalOf old) : Type 0 where
   pub items : tree.items ≡ g.tree.items
 
 -- Which entries three blocks are to have, by those that root and leaf have: lawful ones.
-pub record PlansSplit (old : List ℕ) (g : GlobalOf old) (root leaf free : ℕ) (put firsts others : List Item) : Type 0 where
+pub record PlansSplit (old : List ℕ) (g : GlobalOf old) (root leaf free : ℕ)
+    (put firsts others : List Item) : Type 0 where
   pub front : List Item
   pub entry : Item
   pub back : List Item

@@ -47,7 +47,8 @@ pub fn write_split(
     requires others_packable { ArePackable 0 (items others.now) }
 
     ensures header { header.new ≡ fields_of file.new }
-    ensures writes { WritesSplit file.old file.new root leaf free (items put.now) (items firsts.now) (items others.now) }
+    ensures writes { WritesSplit file.old file.new root leaf free
+        (items put.now) (items firsts.now) (items others.now) }
     ensures sound { (global : GlobalOf file.old)
         → PlansSplit file.old global root leaf free (items put.now) (items firsts.now) (items others.now)
         → KeepsItems file.old file.new global }

@@ -1,4 +1,5 @@
-//! What a crash of each choice leaves of a host in memory. Where nothing is known of a byte, one of choice 2 or 3 leaves
+//! What a crash of each choice leaves of a host in memory. Where nothing is known of a byte, one of choice 2 or 3
+//! leaves
 //! FF hex. All that is wanted here was worked out by hand.
 
 use crate::memory::{Failing, OTHER, files, host};

@@ -1,4 +1,5 @@
-use Rattle.gds_file.proofs.RewriteLemmas.{rewrite_keeps_header, rewrite_stays_lawful, rewrite_is_reshape, rewrites_compose}
+use Rattle.gds_file.proofs.RewriteLemmas.{rewrite_keeps_header, rewrite_stays_lawful, rewrite_is_reshape}
+use Rattle.gds_file.proofs.RewriteLemmas.{rewrites_compose}
 use Rattle.gds_file.proofs.laws.rewrites.Goals as goal
 
 pub returns-clause-header : goal.returns-clause-header

@@ -27,7 +27,8 @@ returns-clause-marks c =
     let room : length (take k (drop place c.args.file.now)) ≡ h.block_size =
     omega (arith, all, width, length-take k (drop place c.args.file.now), length-drop place c.args.file.now) in
     let size : length c.mark_in.new.map ≡ h.block_size = omega (arith, c.mark_in.auto.map, room) in
-    let was = ap (λ m. take m (drop place c.args.file.now)) width ∙ sym (block_here c.args.file.now h c.requires.file n) in
+    let was = ap (λ m. take m (drop place c.args.file.now)) width
+    ∙ sym (block_here c.args.file.now h c.requires.file n) in
     let is = put_block c.args.file.now h c.requires.file n low c.mark_in.new.map size k width in
     subst (λ m. Marks (block_of c.args.file.now n) m (c.args.number % 512) Busy) (sym is)
     (subst (λ m. Marks m c.mark_in.new.map (c.args.number % 512) Busy) was c.mark_in.ensures.marks)
@@ -60,7 +61,8 @@ returns-clause-left c =
     omega (arith, all, width, length-take k (drop place c.args.file.now), length-drop place c.args.file.now) in
     let size : length c.mark_in.new.map ≡ h.block_size = omega (arith, c.mark_in.auto.map, room) in
     let is = put_block c.args.file.now h c.requires.file n low c.mark_in.new.map size k width in
-    let fields = put_fields c.args.file.now h c.requires.file n low c.mark_in.new.map size k width ∙ c.requires.file.header in
+    let fields = put_fields c.args.file.now h c.requires.file n low c.mark_in.new.map size k width
+    ∙ c.requires.file.header in
     c.mark_in.ensures.left
     ∙ ap (λ m. has_free_below m c.min-present.result) (sym is)
     ∙ free_below _ g h.total c.min-present.result (ap (λ f. f.total) fields) (omega (arith, low)) c.min-present.ensures

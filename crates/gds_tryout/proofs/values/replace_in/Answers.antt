@@ -7,14 +7,16 @@ use Rattle.gds_tryout.proofs.ValueLemmas.{set_packable}
 use Rattle.gds_tryout.proofs.values.replace_in.Goals as goal
 
 pub block_tn-tn-requires-clause-file : goal.block_tn-tn-requires-clause-file
-block_tn-tn-requires-clause-file c = leaf_file c.args.file.now c.args.leaf c.requires.leaf c.args.header.now c.requires.header
+block_tn-tn-requires-clause-file c = leaf_file c.args.file.now c.args.leaf c.requires.leaf c.args.header.now
+    c.requires.header
 
 pub block_tn-tn-requires-clause-there : goal.block_tn-tn-requires-clause-there
 block_tn-tn-requires-clause-there c =
     leaf_within c.args.file.now c.args.leaf c.requires.leaf c.args.header.now c.requires.header
 
 pub put_block-requires-clause-file : goal.put_block-requires-clause-file
-put_block-requires-clause-file c = leaf_file c.args.file.now c.args.leaf c.requires.leaf c.args.header.now c.requires.header
+put_block-requires-clause-file c = leaf_file c.args.file.now c.args.leaf c.requires.leaf c.args.header.now
+    c.requires.header
 
 pub put_block-requires-clause-there : goal.put_block-requires-clause-there
 put_block-requires-clause-there c =
@@ -54,6 +56,7 @@ returns c =
       short = c.requires.short;
       fits = omega (arith, c.packed_size.ensures, c.from.ensures, c.if-packed_size-from.false, most);
       block = c.put_block.ensures.block
-          ∙ ap (λ n. block_bytes (items c.set_value.new.entries) 0 n c.args.header.now.block_size) c.block_tn-tn.ensures;
+          ∙ ap (λ n. block_bytes (items c.set_value.new.entries) 0 n c.args.header.now.block_size)
+          c.block_tn-tn.ensures;
       others = c.put_block.ensures.rewrites;
     }

@@ -11,7 +11,8 @@ use Rattle.gds_tryout.proofs.ValueLemmas.{none_read, some_read, sound_done, map_
 use Rattle.gds_tryout.proofs.values.replace_value.Goals as goal
 
 pub read_entries-requires-clause-file : goal.read_entries-requires-clause-file
-read_entries-requires-clause-file c = leaf_file c.args.file.now c.args.leaf c.requires.leaf c.args.header.now c.requires.header
+read_entries-requires-clause-file c = leaf_file c.args.file.now c.args.leaf c.requires.leaf c.args.header.now
+    c.requires.header
 
 pub read_entries-requires-clause-there : goal.read_entries-requires-clause-there
 read_entries-requires-clause-there c =
@@ -35,7 +36,8 @@ replace_in-requires-clause-entries c =
 pub returns-clause-sound : goal.returns-clause-sound
 returns-clause-sound c = λ is place.
     let value = c.in_ok-value.ensures.items in
-    subst (λ v. SetsIn c.args.file.now c.replace_in.new.file place.global (record { key = c.args.key.now; rest = v })) value
+    subst (λ v. SetsIn c.args.file.now c.replace_in.new.file place.global (record { key = c.args.key.now; rest = v }))
+    value
     (sound_done c.args.file.now c.replace_in.new.file c.args.header.now c.args.leaf c.args.key.now
     c.in_ok-value.value.items c.requires.header c.replace_in.result c.replace_in.ensures is place)
 
@@ -45,5 +47,6 @@ returns-clause-map c = λ is m p key stands.
     let bytes = All-from_get_or (λ b. b < 256) c.replace_in.new.file 0 (λ i low. omega (arith, c.type_inv.file i)) in
     subst (λ v. StandsFor c.replace_in.new.file (after m (set_value p v))) value
     (map_done c.args.file.now c.replace_in.new.file c.args.header.now c.args.leaf c.args.key.now
-    c.in_ok-value.value.items c.requires.header c.replace_in.result c.replace_in.ensures is c.requires.leaf bytes m p key
+    c.in_ok-value.value.items c.requires.header c.replace_in.result c.replace_in.ensures is c.requires.leaf bytes m p
+    key
     stands)
