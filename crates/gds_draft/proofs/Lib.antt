@@ -1,0 +1,3 @@
+mod PieceLemmas
+mod DraftLemmas
+mod HeaderLemmas

@@ -1,5 +1,6 @@
 ghost use Rattle.std.specs.Prelude.{◌≡◌, ◌+◌, ◌<◌, ◌≤◌, ◌==◌, [], IfOk, OnOk, OnErr, length};
 ghost use Rattle.std.specs.Option.{option_copied};
+ghost use Rattle.gds_header.specs.Fields.{fields_of, header_bytes};
 ghost use Rattle.gds_header.specs.Kinds.{IsWithinLimits};
 ghost use Rattle.gds_epoch.specs.Waiting.{with_unit};
 ghost use Rattle.gds_draft.specs.Draft.{IsDraft, block_in};
@@ -37,6 +38,7 @@ impl Draft {
         ensures header { result.header ≡ header.now }
         ensures none { result.units ≡ [] }
     {
+        reads_again(*header);
         Draft {
             header: *header,
             blocks: Waiting::new(alloc),
@@ -58,6 +60,7 @@ impl Draft {
         requires total { self.old.header.total ≤ header.now.total }
         ensures { self.new ≡ record self.old { header = header.now } }
     {
+        reads_again(*header);
         self.header = *header;
     }
 
@@ -100,3 +103,8 @@ impl Draft {
         Ok(())
     }
 }
+
+/// Does nothing: the bytes of a header are read as that header again.
+fn reads_again(header: Header)
+    ensures { fields_of (header_bytes header) ≡ header }
+{}
