@@ -1,3 +1,4 @@
 mod PieceLemmas
-mod DraftLemmas
-mod HeaderLemmas
+pub mod DraftLemmas
+pub mod SameLemmas
+pub mod HeaderLemmas

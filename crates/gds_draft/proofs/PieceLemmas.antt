@@ -30,7 +30,7 @@ pieces_from size xs from (suc n) long =
 
 module _ (at size : ℕ) where
   -- the piece behind the front and behind k others
-  pub abbrev piece : List ℕ → ℕ → List ℕ
+  abbrev pub piece : List ℕ → ℕ → List ℕ
   piece xs k = take size (drop (at + k * size) xs)
 
   pub front_and_pieces : (xs : List ℕ) (n : ℕ) → length xs ≡ at + n * size
@@ -39,7 +39,9 @@ module _ (at size : ℕ) where
       let behind : length (drop at xs) ≡ (0 + n) * size = omega (arith, long, length-drop at xs) in
       let there = flat_map_agree (piece xs) (λ k. take size (drop (k * size) (drop at xs))) 0 n
       (λ k low high. ap (take size) (sym (drop-drop (k * size) at xs))) in
-      ap (λ ys. take at xs ++ ys) (there ∙ pieces_from size (drop at xs) 0 n behind) ∙ take-append-drop at xs
+      let none : 0 * size ≡ 0 = omega arith in
+      let all = pieces_from size (drop at xs) 0 n behind ∙ ap (λ m. drop m (drop at xs)) none in
+      ap (λ ys. take at xs ++ ys) (there ∙ all) ∙ take-append-drop at xs
 
   pub same_by_pieces : (a b : List ℕ) (n : ℕ) → length a ≡ at + n * size → length b ≡ length a
       → take at b ≡ take at a → ((k : ℕ) → k < n → piece b k ≡ piece a k) → b ≡ a

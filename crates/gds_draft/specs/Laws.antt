@@ -30,7 +30,8 @@ SameByBlocks =
     (a b : List ℕ) → IsWithinLimits (fields_of a) → length a ≡ file_length_of (fields_of a) → length b ≡ length a
     → take 8192 b ≡ take 8192 a → ((n : ℕ) → n < (fields_of a).total → block_of b n ≡ block_of a n) → b ≡ a
 
--- A draft of a faultless image that changes nothing is that image.
+-- Bytes whose header has no fault are themselves the image with the draft that changes nothing.
 abbrev pub NothingDrafted : Type 0
 NothingDrafted =
-    (image : List ℕ) → header_faults image ≡ [] → drafted (record { header = fields_of image; units = [] }) image ≡ image
+    (image : List ℕ) → All (λ b. b < 256) image → header_faults image ≡ []
+    → drafted (record { header = fields_of image; units = [] }) image ≡ image
