@@ -106,11 +106,11 @@ module _ (h : Header) (block : ℕ → List ℕ) (reads : fields_of (header_byte
   unfolding file_by
   parts = refl
 
-  front : take 8192 (file_by h block) ≡ header_bytes h
-  front = ap (take 8192) parts ∙ take_at (header_bytes h) _ 8192 long
+  pub front_of-file_by : take 8192 (file_by h block) ≡ header_bytes h
+  front_of-file_by = ap (take 8192) parts ∙ take_at (header_bytes h) _ 8192 long
 
   pub fields_of-file_by : fields_of (file_by h block) ≡ h
-  fields_of-file_by = sym (fields_of-front 8192 (file_by h block) (lit≤ tt)) ∙ ap fields_of front ∙ reads
+  fields_of-file_by = sym (fields_of-front 8192 (file_by h block) (lit≤ tt)) ∙ ap fields_of front_of-file_by ∙ reads
 
   pub length-file_by : length (file_by h block) ≡ file_length_of h
   length-file_by =
@@ -134,6 +134,7 @@ drafted_read image draft is =
     let even : (n : ℕ) → length (block_with draft image n) ≡ h.block_size =
     λ n. length-or_block h image is.long is.block_size n (n + 1) draft.units is.draft_is.blocks in
     record {
+      front = front_of-file_by h (block_with draft image) is.draft_is.reads even;
       fields = fields_of-file_by h (block_with draft image) is.draft_is.reads even;
       blocks = block_of-file_by h (block_with draft image) is.draft_is.reads even;
       len = length-file_by h (block_with draft image) is.draft_is.reads even;

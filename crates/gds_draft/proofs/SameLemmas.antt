@@ -7,7 +7,7 @@ use Rattle.gds_draft.specs.Laws.{SameByBlocks}
 use Rattle.gds_draft.proofs.PieceLemmas.{piece, same_by_pieces}
 
 pub same_file : SameByBlocks
-same_file a b limits long same front blocks =
+same_file a b long same front blocks =
     let h : Header = fields_of a in
     let fields : fields_of b ≡ h =
     sym (fields_of-front 8192 b (lit≤ tt)) ∙ ap fields_of front ∙ fields_of-front 8192 a (lit≤ tt) in

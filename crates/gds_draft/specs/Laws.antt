@@ -15,8 +15,10 @@ pub record IsDraftOf (image : List ℕ) (draft : DraftState) : Type 0 where
   pub tn : draft.header.tn ≡ (fields_of image).tn
   pub long : file_length_of (fields_of image) ≡ length image
 
--- Its header is the draft's, its blocks are the draft's or else the image's or zero, and it is as long as it says.
+-- It begins with the draft's header and reads as it, its blocks are the draft's or else the image's or zero, and it is as
+-- long as it says.
 pub record ReadsAsDrafted (draft : DraftState) (image : List ℕ) : Type 0 where
+  pub front : take 8192 (drafted draft image) ≡ header_bytes draft.header
   pub fields : fields_of (drafted draft image) ≡ draft.header
   pub blocks : (n : ℕ) → n < draft.header.total → block_of (drafted draft image) n ≡ block_with draft image n
   pub len : length (drafted draft image) ≡ file_length_of draft.header
@@ -27,8 +29,8 @@ DraftedReads = (image : List ℕ) (draft : DraftState) → IsDraftOf image draft
 -- Files of one length with the same first bytes and the same blocks are one.
 abbrev pub SameByBlocks : Type 0
 SameByBlocks =
-    (a b : List ℕ) → IsWithinLimits (fields_of a) → length a ≡ file_length_of (fields_of a) → length b ≡ length a
-    → take 8192 b ≡ take 8192 a → ((n : ℕ) → n < (fields_of a).total → block_of b n ≡ block_of a n) → b ≡ a
+    (a b : List ℕ) → length a ≡ file_length_of (fields_of a) → length b ≡ length a → take 8192 b ≡ take 8192 a
+    → ((n : ℕ) → n < (fields_of a).total → block_of b n ≡ block_of a n) → b ≡ a
 
 -- Bytes whose header has no fault are themselves the image with the draft that changes nothing.
 abbrev pub NothingDrafted : Type 0
