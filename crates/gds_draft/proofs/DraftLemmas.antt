@@ -1,6 +1,6 @@
 -- The blocks of a draft, and the image with them.
-use Rattle.std.proofs.Common.{◌≡◌, ℕ, ◌+◌, ◌-◌, ◌*◌, ◌<◌, ◌≤◌, Bool, true, false, List, [], ◌∷◌, ◌++◌, length, take}
-use Rattle.std.proofs.Common.{length-append, length-take, drop, flat_map, refl, sym, ap, ◌∙◌, arith, lit≤, subst, ⊎_elim}
+use Rattle.std.proofs.Common.{◌≡◌, ℕ, ◌+◌, ◌*◌, ◌<◌, ◌≤◌, Bool, true, false, List, [], ◌∷◌, ◌++◌, length, take}
+use Rattle.std.proofs.Common.{length-append, length-take, drop, flat_map, refl, sym, ap, ◌∙◌, arith, lit≤}
 use Rattle.std.specs.Prelude.{if◌then◌else◌, nat_lt, ◌==◌, Some, None}
 use Rattle.std.specs.List.{range_with_len, All}
 use Rattle.std.proofs.lemmas.List.{length-drop, take_at, drop_at, drop-drop}
@@ -8,7 +8,6 @@ use Rattle.std.proofs.lemmas.List.Elements.{All-nil, All-cons, All-head, All-tai
 use Rattle.gds_epoch.specs.Waiting.{WaitingUnit, waiting_bytes, with_unit}
 use Rattle.gds_epoch.proofs.PatchLemmas.{All-with_unit}
 use Rattle.gds_header.specs.Fields.{block_of, fields_of, file_length_of, header_bytes, place_of, zeros}
-use Rattle.gds_header.specs.Kinds.{IsWithinLimits}
 use Rattle.gds_header.specs.declared.header.Header.{Header}
 use Rattle.gds_header.proofs.EndingLemmas.{fields_of-front}
 use Rattle.gds_new.proofs.PieceLemmas.{length-pieces, piece_at}

@@ -1,11 +1,11 @@
 -- A header with which nothing is wrong is written again as it was read, so that an image is the draft of no changes.
-use Rattle.std.proofs.Common.{◌≡◌, ℕ, ◌+◌, ◌-◌, ◌*◌, ◌<◌, ◌≤◌, ◌==◌, Bool, true, false, not, ◌||◌, List, [], ◌∷◌, ◌++◌}
-use Rattle.std.proofs.Common.{length, take, drop, replicate, get_or, inl, inr, refl, sym, ap, ◌∙◌, arith, ⊎_elim}
+use Rattle.std.proofs.Common.{◌≡◌, ℕ, ◌+◌, ◌<◌, ◌≤◌, ◌==◌, Bool, true, false, not, List, [], ◌∷◌, ◌++◌}
+use Rattle.std.proofs.Common.{length, take, drop, get_or, inl, inr, refl, sym, ap, ◌∙◌, arith, ⊎_elim}
 use Rattle.std.specs.Prelude.{nat_eq, nat_lt, slice_range, None}
 use Rattle.std.specs.List.{All, list_any, range_with_len, starts_with}
-use Rattle.std.proofs.lemmas.Bool.{cases_Bool, cases_lt, eqb-true, or_parts, ltb-false, lt-ltb, cond-true, true≢false, not-false}
-use Rattle.std.proofs.lemmas.List.{append-nil, length-drop, length-take-le, take-append-drop, drop-drop, drop_all}
-use Rattle.std.proofs.lemmas.List.{take_all, get_or_past}
+use Rattle.std.proofs.lemmas.Bool.{cases_lt, eqb-true, or_parts, ltb-false, lt-ltb, cond-true, true≢false, not-false}
+use Rattle.std.proofs.lemmas.List.{length-drop, length-take-le, take-append-drop, drop-drop, drop_all}
+use Rattle.std.proofs.lemmas.List.{get_or_past}
 use Rattle.std.proofs.lemmas.List.Elements.{All-get_or, All-take, All-drop}
 use Rattle.std.proofs.lemmas.List.Folds.{list_any-append}
 use Rattle.gds_header.specs.declared.kind.HeaderKind.{HeaderKind}
@@ -21,7 +21,7 @@ use Rattle.gds_block.proofs.FieldLemmas.{u32_at-front, u64_at-front}
 use Rattle.gds_header.specs.declared.header.Header.{Header}
 use Rattle.gds_header.specs.declared.kind.HeaderKind.TheVariants.{ShortHeader, NotDatabase, ShortFile, LongFile}
 use Rattle.gds_header.specs.declared.kind.HeaderKind.TheVariants.{ReservedByte}
-use Rattle.gds_header.specs.Fields.{block_of, fields_of, file_length_of, header_bytes, label, zeros}
+use Rattle.gds_header.specs.Fields.{fields_of, file_length_of, header_bytes, label, zeros}
 use Rattle.gds_header.specs.Kinds.{groups_past, has_free, header_faults, holds, reserved_bytes}
 use Rattle.gds_sound.proofs.HeaderLemmas.{none_of_header}
 use Rattle.gds_draft.specs.Drafted.{file_by, or_block}

@@ -1,7 +1,7 @@
 -- A file is told by its front and its blocks.
-use Rattle.std.proofs.Common.{◌≡◌, ℕ, ◌<◌, List, length, take, drop, sym, ap, ◌∙◌, lit≤}
+use Rattle.std.proofs.Common.{◌≡◌, ℕ, ◌<◌, take, drop, sym, ap, ◌∙◌, lit≤}
 use Rattle.gds_header.specs.declared.header.Header.{Header}
-use Rattle.gds_header.specs.Fields.{block_of, fields_of, place_of}
+use Rattle.gds_header.specs.Fields.{fields_of, place_of}
 use Rattle.gds_header.proofs.EndingLemmas.{fields_of-front}
 use Rattle.gds_draft.specs.Laws.{SameByBlocks}
 use Rattle.gds_draft.proofs.PieceLemmas.{piece, same_by_pieces}

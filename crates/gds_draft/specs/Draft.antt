@@ -1,5 +1,5 @@
 -- A draft: what is to be changed of a database, its header and some of its blocks.
-use Rattle.std.specs.Prelude.{◌≡◌, ◌≤◌, ◌+◌, ℕ, All, List, [], Option, length}
+use Rattle.std.specs.Prelude.{◌≡◌, ◌≤◌, ◌+◌, ℕ, All, List, Option, length}
 use Rattle.gds_header.specs.Fields.{fields_of, header_bytes}
 use Rattle.gds_header.specs.Kinds.{IsWithinLimits}
 use Rattle.gds_header.specs.declared.header.Header.{Header}

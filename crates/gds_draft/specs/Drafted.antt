@@ -1,7 +1,7 @@
 -- The image with a draft.
-use Rattle.std.specs.Prelude.{◌≡◌, ℕ, List, ◌++◌, flat_map, length, nat_lt, Option, None, Some, if◌then◌else◌}
+use Rattle.std.specs.Prelude.{ℕ, List, ◌++◌, flat_map, nat_lt, Option, None, Some, if◌then◌else◌}
 use Rattle.std.specs.List.{range_with_len}
-use Rattle.gds_header.specs.Fields.{block_of, fields_of, file_length_of, header_bytes, zeros}
+use Rattle.gds_header.specs.Fields.{block_of, fields_of, header_bytes, zeros}
 use Rattle.gds_header.specs.declared.header.Header.{Header}
 use Rattle.gds_draft.specs.Draft.{DraftState, block_in}
 

@@ -1,10 +1,8 @@
 -- The image with a draft, by its header and by its blocks.
-use Rattle.std.specs.Prelude.{◌≡◌, ◌≢◌, ◌<◌, ◌≤◌, ◌+◌, ℕ, List, [], ◌∷◌, length, All, Some, take}
+use Rattle.std.specs.Prelude.{◌≡◌, ◌<◌, ℕ, List, [], length, All, take}
 use Rattle.gds_header.specs.Fields.{block_of, fields_of, file_length_of, header_bytes}
-use Rattle.gds_header.specs.Kinds.{IsWithinLimits, ending_kind, header_faults}
-use Rattle.gds_epoch.specs.Waiting.{with_unit}
-use Rattle.gds_file.specs.Rewrite.{Rewrites}
-use Rattle.gds_draft.specs.Draft.{DraftState, IsDraft, block_in}
+use Rattle.gds_header.specs.Kinds.{IsWithinLimits, header_faults}
+use Rattle.gds_draft.specs.Draft.{DraftState, IsDraft}
 use Rattle.gds_draft.specs.Drafted.{block_with, drafted}
 
 -- The image has a header within the limits, which is the draft's but for what a change may change.

@@ -91,7 +91,8 @@ impl Draft {
         requires within { block < self.old.header.total }
         requires size { length bytes.now ≡ self.old.header.block_size }
         ensures put { OnOk result (self.new ≡ record self.old {
-            units = with_unit self.old.units (record { unit = block + 1; bytes = bytes.now }) }) }
+          units = with_unit self.old.units (record { unit = block + 1; bytes = bytes.now });
+        }) }
         ensures err { OnErr result (self.new ≡ self.old) }
     {
         let bytes = Vec::from_slice(alloc, bytes)?;

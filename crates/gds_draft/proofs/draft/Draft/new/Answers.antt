@@ -1,6 +1,5 @@
 use Rattle.std.proofs.Common.{subst, sym}
 use Rattle.std.proofs.lemmas.List.Elements.{All-nil}
-use Rattle.gds_epoch.specs.Waiting.{WaitingUnit}
 use Rattle.std.specs.List.{All}
 use Rattle.gds_draft.specs.Draft.{IsBlockOf}
 use Rattle.gds_draft.proofs.draft.Draft.new.Goals as goal
