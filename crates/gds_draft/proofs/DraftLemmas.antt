@@ -3,22 +3,21 @@ use Rattle.std.proofs.Common.{◌≡◌, ℕ, ◌+◌, ◌*◌, ◌<◌, ◌≤�
 use Rattle.std.proofs.Common.{length-append, length-take, drop, flat_map, refl, sym, ap, ◌∙◌, arith, lit≤}
 use Rattle.std.specs.Prelude.{if◌then◌else◌, nat_lt, ◌==◌, Some, None}
 use Rattle.std.specs.List.{range_with_len, All}
-use Rattle.std.proofs.lemmas.List.{length-drop, take_at, drop_at, drop-drop}
+use Rattle.std.proofs.lemmas.Bool.{ltb-true}
+use Rattle.std.proofs.lemmas.List.{length-drop, length-take-le, take_at, drop_at, drop-drop}
 use Rattle.std.proofs.lemmas.List.Elements.{All-nil, All-cons, All-head, All-tail}
-use Rattle.gds_epoch.specs.Waiting.{WaitingUnit, waiting_bytes, with_unit}
-use Rattle.gds_epoch.proofs.PatchLemmas.{All-with_unit}
+use Rattle.std.proofs.lemmas.Nat.{row_fits}
+use Rattle.gds_block.proofs.FieldLemmas.{length-u32_bytes, length-u64_bytes}
 use Rattle.gds_header.specs.Fields.{block_of, fields_of, file_length_of, header_bytes, place_of, zeros}
 use Rattle.gds_header.specs.declared.header.Header.{Header}
 use Rattle.gds_header.proofs.EndingLemmas.{fields_of-front}
+use Rattle.gds_epoch.specs.Waiting.{WaitingUnit, waiting_bytes, with_unit}
+use Rattle.gds_epoch.proofs.PatchLemmas.{All-with_unit}
 use Rattle.gds_new.proofs.PieceLemmas.{length-pieces, piece_at}
 use Rattle.gds_new.proofs.HeaderLemmas.{length-header_bytes, length-zeros}
 use Rattle.gds_draft.specs.Draft.{IsBlockOf}
 use Rattle.gds_draft.specs.Drafted.{block_with, file_by, or_block}
 use Rattle.gds_draft.specs.Laws.{DraftedReads}
-use Rattle.gds_block.proofs.FieldLemmas.{length-u32_bytes, length-u64_bytes}
-use Rattle.std.proofs.lemmas.Nat.{row_fits}
-use Rattle.std.proofs.lemmas.Bool.{ltb-true}
-use Rattle.std.proofs.lemmas.List.{length-take-le}
 
 -- Blocks of a file are blocks of a longer one with the same block size.
 pub blocks_of_longer : (g h : Header) (units : List WaitingUnit) → h.block_size ≡ g.block_size → g.total ≤ h.total

@@ -1,28 +1,25 @@
 -- A header with which nothing is wrong is written again as it was read, so that an image is the draft of no changes.
-use Rattle.std.proofs.Common.{◌≡◌, ℕ, ◌+◌, ◌<◌, ◌≤◌, ◌==◌, Bool, true, false, not, List, [], ◌∷◌, ◌++◌}
-use Rattle.std.proofs.Common.{length, take, drop, get_or, inl, inr, refl, sym, ap, ◌∙◌, arith, ⊎_elim}
+use Rattle.std.proofs.Common.{◌≡◌, ℕ, ◌+◌, ◌<◌, ◌≤◌, ◌==◌, Bool, true, false, not, List, [], ◌∷◌, ◌++◌, length, take}
+use Rattle.std.proofs.Common.{drop, flat_map, get_or, inl, inr, refl, sym, ap, ◌∙◌, arith, lit≤, ⊎_elim}
 use Rattle.std.specs.Prelude.{nat_eq, nat_lt, slice_range, None}
 use Rattle.std.specs.List.{All, list_any, range_with_len, starts_with}
 use Rattle.std.proofs.lemmas.Bool.{cases_lt, eqb-true, or_parts, ltb-false, lt-ltb, cond-true, true≢false, not-false}
-use Rattle.std.proofs.lemmas.List.{length-drop, length-take-le, take-append-drop, drop-drop, drop_all}
+use Rattle.std.proofs.lemmas.List.{length-drop, length-take-le, take-append-drop, take-take, drop-drop, drop_all}
 use Rattle.std.proofs.lemmas.List.{get_or_past}
 use Rattle.std.proofs.lemmas.List.Elements.{All-get_or, All-take, All-drop}
 use Rattle.std.proofs.lemmas.List.Folds.{list_any-append}
-use Rattle.gds_header.specs.declared.kind.HeaderKind.{HeaderKind}
-use Rattle.gds_header.specs.Kinds.{kinds}
-use Rattle.gds_law.proofs.MembershipLemmas.{IsIn}
-use Rattle.gds_header.proofs.EndingLemmas.{fields_of-front, reserved_bytes-front}
-use Rattle.std.proofs.Common.{lit≤, flat_map}
-use Rattle.std.proofs.lemmas.List.{take-take}
 use Rattle.std.proofs.lemmas.Nat.{le_bytes_4, le_bytes_8}
 use Rattle.std.proofs.lemmas.Slice.Eq.{bytes_eq-Decides}
 use Rattle.gds_block.specs.Fields.{u32_at, u32_bytes, u64_at, u64_bytes}
 use Rattle.gds_block.proofs.FieldLemmas.{u32_at-front, u64_at-front}
 use Rattle.gds_header.specs.declared.header.Header.{Header}
+use Rattle.gds_header.specs.declared.kind.HeaderKind.{HeaderKind}
 use Rattle.gds_header.specs.declared.kind.HeaderKind.TheVariants.{ShortHeader, NotDatabase, ShortFile, LongFile}
 use Rattle.gds_header.specs.declared.kind.HeaderKind.TheVariants.{ReservedByte}
 use Rattle.gds_header.specs.Fields.{fields_of, file_length_of, header_bytes, label, zeros}
-use Rattle.gds_header.specs.Kinds.{groups_past, has_free, header_faults, holds, reserved_bytes}
+use Rattle.gds_header.specs.Kinds.{groups_past, has_free, header_faults, holds, kinds, reserved_bytes}
+use Rattle.gds_header.proofs.EndingLemmas.{fields_of-front, reserved_bytes-front}
+use Rattle.gds_law.proofs.MembershipLemmas.{IsIn}
 use Rattle.gds_sound.proofs.HeaderLemmas.{none_of_header}
 use Rattle.gds_draft.specs.Drafted.{file_by, or_block}
 use Rattle.gds_draft.specs.Laws.{NothingDrafted}

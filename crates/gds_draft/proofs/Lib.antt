@@ -1,4 +1,4 @@
-mod PieceLemmas
+pub mod PieceLemmas
 pub mod DraftLemmas
 pub mod SameLemmas
 pub mod HeaderLemmas

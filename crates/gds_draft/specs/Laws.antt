@@ -13,8 +13,8 @@ pub record IsDraftOf (image : List ℕ) (draft : DraftState) : Type 0 where
   pub tn : draft.header.tn ≡ (fields_of image).tn
   pub long : file_length_of (fields_of image) ≡ length image
 
--- It begins with the draft's header and reads as it, its blocks are the draft's or else the image's or zero, and it is as
--- long as it says.
+-- It begins with the draft's header and reads as it, its blocks are the draft's or else the image's or zero, and it is
+-- as long as it says.
 pub record ReadsAsDrafted (draft : DraftState) (image : List ℕ) : Type 0 where
   pub front : take 8192 (drafted draft image) ≡ header_bytes draft.header
   pub fields : fields_of (drafted draft image) ≡ draft.header

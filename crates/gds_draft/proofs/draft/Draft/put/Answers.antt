@@ -7,7 +7,8 @@ use Rattle.gds_draft.proofs.draft.Draft.put.Goals as goal
 pub invariant_of-self-2 : goal.invariant_of-self-2
 invariant_of-self-2 c =
     let h = c.self.inside.header in
-    let low = subst (λ (draft : DraftState). c.args.block < draft.header.total) (sym c.self.view_is) c.requires.within in
+    let low =
+    subst (λ (draft : DraftState). c.args.block < draft.header.total) (sym c.self.view_is) c.requires.within in
     let size =
     ap length c.in_ok-bytes.ensures.items ∙ c.requires.size
     ∙ ap (λ (draft : DraftState). draft.header.block_size) (sym c.self.view_is) in
