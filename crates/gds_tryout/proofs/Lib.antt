@@ -8,3 +8,4 @@ pub mod HeaderLemmas
 pub mod TakingLemmas
 pub mod SplitLemmas
 pub mod WrittenLemmas
+pub mod PlanLemmas

@@ -10,6 +10,6 @@ mod taking;
 mod values;
 
 pub use blocks::{block, block_tn, put_block, read_entries};
-pub use splitting::{split_leaf, write_split};
+pub use splitting::{plan_of_split, split_leaf, write_split};
 pub use taking::take_block;
 pub use values::{Outcome, replace_value};
