@@ -4,14 +4,17 @@ use Rattle.std.proofs.Common.{inl, inr}
 use Rattle.std.specs.Prelude.{◌^◌, nat_lt, IsTrue}
 use Rattle.std.proofs.lemmas.Bool.{ltb-false, eqb-false, or_parts}
 use Rattle.gds_header.specs.declared.kind.HeaderKind.TheVariants.{ShortFile, BadTransactionNumber}
-use Rattle.gds_header.specs.Fields.{fields_of, image_length}
+use Rattle.gds_block.specs.Block.{used_of, IsBlock}
+use Rattle.gds_block.specs.Item.{Item}
+use Rattle.gds_header.specs.Fields.{fields_of, image_length, block_of}
 use Rattle.gds_header.specs.Kinds.{header_faults}
 use Rattle.gds_law.specs.Visit.{Visit}
 use Rattle.gds_sound.specs.Sound.{tree_at, root_of}
 use Rattle.gds_sound.proofs.CountLemmas.{count}
-use Rattle.gds_sound.proofs.HeaderLemmas.{limits_of, none_of_header}
+use Rattle.gds_sound.proofs.HeaderLemmas.{limits_of, none_of_header, block_whole}
 use Rattle.gds_sound.proofs.PathLemmas.{counts_from_distinct, any_counted, counted_any}
 use Rattle.gds_sound.proofs.SoundLemmas.{AreTrees, blocks_of}
+use Rattle.gds_tree.specs.Below.{HasEntries}
 use Rattle.gds_tree.specs.Keeps.{IsImage}
 use Rattle.gds_file.specs.Maps.{has_block}
 use Rattle.gds_file.specs.FileLaws.{IsLawful}
@@ -80,3 +83,16 @@ module _ (file : List ℕ) (g : GlobalOf file) where
 
   pub once_there : (n : ℕ) → count n g.tree.blocks ≤ 1
   once_there n = omega (arith, counted n, counts_from_distinct all g.sound.distinct n)
+
+  -- a block with entries can be read
+  pub entries_block : (v : Visit) (level : ℕ) (es : List Item) → HasEntries file v level es
+      → IsBlock (block_of file v.block)
+  entries_block v level es has =
+      let size = block_whole file v.block g.sound.header has.there in
+      let head = has.right.head in
+      let most = whole_image.limits.block_from in
+      record {
+        head = omega (arith, size, most);
+        covered = omega (arith, head.used);
+        within = omega (arith, head.used, head.fits, size);
+      }

@@ -34,6 +34,7 @@ use Rattle.gds_file.proofs.UseLemmas.{in_has, IsProper}
 use Rattle.gds_tryout.specs.File.{IsFile}
 use Rattle.gds_tryout.specs.Global.{GlobalOf, LeafOf, SoundWith}
 use Rattle.gds_tryout.proofs.GlobalLemmas.{whole_image, lawful_file, tree_there, proper_there, busy_there, once_there}
+use Rattle.gds_tryout.proofs.GlobalLemmas.{entries_block}
 
 -- ---- an image whose blocks are written anew
 
@@ -226,13 +227,4 @@ module _ (file : List ℕ) (number : ℕ) (at : LeafOf file number) where
   pub leaf_block : IsBlock (block_of file number)
   leaf_block =
       let t = in_tree file number at in
-      let size = block_whole file number at.global.sound.header (leaf_proper file number at).within in
-      let head = t.has.right.head in
-      let most = (whole_image file at.global).limits.block_from in
-      let used : used_of (block_of file number) ≡ packed_size t.es =
-      ap (λ n. used_of (block_of file n)) (sym at.ends) ∙ head.used in
-      record {
-        head = omega (arith, size, most);
-        covered = omega (arith, used);
-        within = omega (arith, used, head.fits, size);
-      }
+      subst (λ n. IsBlock (block_of file n)) at.ends (entries_block file at.global at.visit 0 t.es t.has)

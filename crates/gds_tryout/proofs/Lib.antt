@@ -9,3 +9,5 @@ pub mod TakingLemmas
 pub mod SplitLemmas
 pub mod WrittenLemmas
 pub mod PlanLemmas
+pub mod RootLemmas
+pub mod CutLemmas

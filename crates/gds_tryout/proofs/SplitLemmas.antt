@@ -38,6 +38,8 @@ use Rattle.gds_tryout.specs.Global.{GlobalOf}
 use Rattle.gds_tryout.specs.Split.{SplitsLeaf, KeepsItems, below}
 use Rattle.gds_tryout.proofs.GlobalLemmas.{image_of, whole_image, tree_there, proper_there, busy_there, once_there}
 use Rattle.gds_tryout.proofs.LeafLemmas.{all_in}
+use Rattle.gds_tryout.proofs.RootLemmas.{InParts, in_parts}
+use Rattle.gds_tryout.proofs.RootLemmas.{counts as root_counts}
 
 same_tree : (o : Option Tree) (x y : Tree) → o ≡ Some x → o ≡ Some y → x ≡ y
 same_tree o x y e f = cc
@@ -66,56 +68,23 @@ module _ (old mid new : List ℕ) (g : GlobalOf old) (free : ℕ) (s : SplitsLea
   i : IsImage old
   i = whole_image old g
 
-  tree_down : sound_tree old 1 root ≡ Some g.tree
-  tree_down =
-      ap (λ n. sound_tree old n root) (sym s.root.level) ∙ tree_there old g
-
   -- the tree in parts: what stands below the entries before, the leaf, and what stands below those behind
-  record InParts : Type 0 where
-    before : Tree
-    behind : Tree
-    first : trees_below old root 0 root.low s.front ≡ Some before
-    last : trees_below old root 0 (Some s.entry.key) s.back ≡ Some behind
-    whole : g.tree ≡ index_tree root
-        (joined before (joined (leaf_tree (below root s.front s.entry) (s.firsts ++ s.next ∷ s.others)) behind))
+  abbrev t : InParts old g s.front s.entry s.back s.root
+  t = in_parts old g s.front s.entry s.back s.root
 
-  in_parts : InParts
-  in_parts =
-      let x = by_index old root 0 g.tree i s.root.there tree_down in
-      let same = same_entries x.es (s.front ++ s.entry ∷ s.back) (entries_of (block_of old root.block))
-      x.has.right.found s.root.right.found in
-      let trees = sym (below_append old root 0 root.low s.front (s.entry ∷ s.back))
-      ∙ ap (trees_below old root 0 root.low) (sym same) ∙ x.trees in
-      let p = both_parts (trees_below old root 0 root.low s.front)
-      (trees_below old root 0 (low_behind root.low s.front) (s.entry ∷ s.back)) x.below trees in
-      let q = both_parts (sound_tree old 0 (below root s.front s.entry))
-      (trees_below old root 0 (Some s.entry.key) s.back) p.second p.later in
-      let is = same_tree (sound_tree old 0 (below root s.front s.entry)) q.first
-      (leaf_tree (below root s.front s.entry) (s.firsts ++ s.next ∷ s.others)) q.here
-      (leaf_by old (below root s.front s.entry) (s.firsts ++ s.next ∷ s.others) i s.leaf) in
-      record {
-        before = p.first;
-        behind = q.second;
-        first = p.here;
-        last = q.later;
-        whole = x.is
-            ∙ ap (index_tree root) (p.is ∙ ap (joined p.first) (q.is ∙ ap (λ t. joined t q.second) is));
-      }
+  whole : g.tree ≡ index_tree root
+      (joined t.before (joined (leaf_tree (below root s.front s.entry) (s.firsts ++ s.next ∷ s.others)) t.behind))
+  whole =
+      t.whole
+      ∙ ap (λ es. index_tree root (joined t.before (joined (leaf_tree (below root s.front s.entry) es) t.behind)))
+      (same_entries t.es (s.firsts ++ s.next ∷ s.others) (entries_of (block_of old leaf)) t.here.right.found
+      s.leaf.right.found)
 
   -- ---- its blocks
 
   counts : (n : ℕ) → count n g.tree.blocks
-      ≡ count n (root.block ∷ []) + (count n in_parts.before.blocks +
-      (count n (leaf ∷ []) + count n in_parts.behind.blocks))
-  counts n =
-      let t = in_parts in
-      omega (
-        arith,
-        ap (λ (w : Tree). count n w.blocks) t.whole,
-        count_append n (root.block ∷ []) (t.before.blocks ++ ((leaf ∷ []) ++ t.behind.blocks)),
-        count_append n t.before.blocks ((leaf ∷ []) ++ t.behind.blocks),
-        count_append n (leaf ∷ []) t.behind.blocks,
-      )
+      ≡ count n (root.block ∷ []) + (count n t.before.blocks + (count n (leaf ∷ []) + count n t.behind.blocks))
+  counts = root_counts old g s.front s.entry s.back s.root
 
   own_count : (n : ℕ) → 1 ≤ count n (n ∷ [])
   own_count n = any_counted n (n ∷ []) (or_left (nat_eq n n) false (eq-eqb n n refl))
@@ -125,7 +94,7 @@ module _ (old mid new : List ℕ) (g : GlobalOf old) (free : ℕ) (s : SplitsLea
       both_ways (is_busy old n) (ap (is_busy old) e ∙ s.is_free.free) (busy_there old g n there)
 
   -- another block of the tree stays
-  kept : (n : ℕ) → 1 ≤ count n in_parts.before.blocks + count n in_parts.behind.blocks → block_of new n ≡ block_of old n
+  kept : (n : ℕ) → 1 ≤ count n t.before.blocks + count n t.behind.blocks → block_of new n ≡ block_of old n
   kept n some =
       let there : IsTrue (has_block g.tree.blocks n) = counted_any n g.tree.blocks (omega (arith, counts n, some)) in
       let proper = proper_there old g n there in
@@ -148,7 +117,7 @@ module _ (old mid new : List ℕ) (g : GlobalOf old) (free : ℕ) (s : SplitsLea
       there) k || false)))
       ∙ s.takes.others n (λ e. proper.no_map (omega (arith, e)))
 
-  keeps : (xs : List ℕ) → ((n : ℕ) → count n xs ≤ count n in_parts.before.blocks + count n in_parts.behind.blocks)
+  keeps : (xs : List ℕ) → ((n : ℕ) → count n xs ≤ count n t.before.blocks + count n t.behind.blocks)
       → KeepsBlocks old new xs
   keeps xs less =
       All-from_recursion (λ n. block_of new n ≡ block_of old n) xs
@@ -229,7 +198,7 @@ module _ (old mid new : List ℕ) (g : GlobalOf old) (free : ℕ) (s : SplitsLea
       (leaf_tree (visit_below root 0 (Some s.left.key) s.right) (s.next ∷ s.others))
 
   abbrev tree_now : Tree
-  tree_now = index_tree root (around in_parts.before middle in_parts.behind)
+  tree_now = index_tree root (around t.before middle t.behind)
 
   put_trees : trees_below new root 0 (low_behind root.low s.front) (s.left ∷ s.right ∷ []) ≡ Some middle
   put_trees =
@@ -244,7 +213,6 @@ module _ (old mid new : List ℕ) (g : GlobalOf old) (free : ℕ) (s : SplitsLea
 
   sound_now : sound_tree new 1 root ≡ Some tree_now
   sound_now =
-      let t = in_parts in
       replaced old new root 0 s.front (s.entry ∷ []) s.back (s.left ∷ s.right ∷ []) t.before middle t.behind i j sizes
       more (subst (HasEntries old root 1) (sym (append_assoc s.front (s.entry ∷ []) s.back)) s.root) t.first
       (ap (λ low. trees_below old root 0 low s.back) (low_append root.low s.front (s.entry ∷ [])) ∙ t.last)
@@ -254,7 +222,6 @@ module _ (old mid new : List ℕ) (g : GlobalOf old) (free : ℕ) (s : SplitsLea
 
   counts_now : (n : ℕ) → count n tree_now.blocks ≡ count n (free ∷ []) + count n g.tree.blocks
   counts_now n =
-      let t = in_parts in
       let l : ℕ = u32_at s.left.rest 0 in
       let r : ℕ = u32_at s.right.rest 0 in
       omega (
@@ -296,10 +263,9 @@ module _ (old mid new : List ℕ) (g : GlobalOf old) (free : ℕ) (s : SplitsLea
 
   items_same : tree_now.items ≡ g.tree.items
   items_same =
-      let t = in_parts in
       ap (λ xs. xs ++ t.behind.items) (ap (λ xs. t.before.items ++ xs) refl)
       ∙ append_assoc t.before.items (s.firsts ++ s.next ∷ s.others) t.behind.items
-      ∙ sym (ap (λ (w : Tree). w.items) t.whole)
+      ∙ sym (ap (λ (w : Tree). w.items) whole)
 
   pub leaf_split : KeepsItems old new g
   leaf_split = record {
