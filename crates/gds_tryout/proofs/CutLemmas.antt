@@ -1,11 +1,14 @@
 -- A leaf right below its global's root that is cut: what is known of the entries.
-use Rattle.std.proofs.Common.{◌≡◌, ◌≢◌, ℕ, ◌+◌, ◌<◌, ◌≤◌, List, [], ◌∷◌, ◌++◌, length, Some, refl, sym, ap, subst, ◌∙◌}
-use Rattle.std.proofs.Common.{arith}
-use Rattle.std.specs.Prelude.{◌^◌}
+use Rattle.std.proofs.Common.{◌≡◌, ◌≢◌, ℕ, ◌+◌, ◌<◌, ◌≤◌, List, [], ◌∷◌, ◌++◌, length, Some, sym, ap, subst, ◌∙◌}
+use Rattle.std.proofs.Common.{arith, take, drop, slice_index_or, length-drop, Option, Vec, Global}
+use Rattle.std.specs.Prelude.{◌^◌, option_map}
+use Rattle.std.proofs.lemmas.List.{take-append-drop, map-append, length-map, length-take-le}
+use Rattle.gds_block.specs.Block.{IsBlock}
 use Rattle.gds_block.specs.Fields.{u32_at, u32_bytes}
 use Rattle.gds_block.specs.Item.{Item}
 use Rattle.gds_header.specs.Fields.{fields_of, block_of}
-use Rattle.gds_pack.specs.Packable.{ArePackable}
+use Rattle.gds_pack.specs.declared.entry.Entry.{Entry}
+use Rattle.gds_pack.specs.Entry.{item, items}
 use Rattle.gds_pack.specs.Packed.{packed_size}
 use Rattle.gds_pack.proofs.SizeLemmas.{packed_size-front, packed_size-back}
 use Rattle.gds_pack.specs.Unpacked.{entries_of}
@@ -13,11 +16,16 @@ use Rattle.gds_sound.specs.Sound.{root_of}
 use Rattle.gds_tree.specs.Below.{HasEntries}
 use Rattle.gds_tree.proofs.RootLemmas.{same_entries}
 use Rattle.gds_file.specs.TakeLaws.{IsFree}
-use Rattle.gds_tryout.specs.Cut.{RootOfLeaves, CutsLeaf, parted}
-use Rattle.gds_tryout.specs.Split.{PlansSplit, below}
-use Rattle.gds_tryout.proofs.EntryLemmas.{pointer_to, pointer_long}
+use Rattle.gds_tryout.specs.Cut.{RootOfLeaves, LeadsAt, NoneLeads, parted, CutsLeaf, IsNotBelow, HasFew, SplitBecame}
+use Rattle.gds_tryout.specs.declared.cutting.SplitOutcome.{SplitOutcome}
+use Rattle.gds_tryout.specs.declared.cutting.SplitOutcome.TheVariants.{Done, NotBelow, TooFew, NoRoom}
+use Rattle.gds_tryout.specs.Split.{KeepsItems, PlansSplit, below}
+use Rattle.gds_tryout.proofs.EntryLemmas.{items_around, pointer_to, pointer_long}
 use Rattle.gds_tryout.proofs.PlanLemmas.{split_plan}
-use Rattle.gds_tryout.proofs.RootLemmas.{InParts, in_parts, root_has, apart}
+use Rattle.gds_tryout.proofs.RootLemmas.{InParts, in_parts, root_has, apart, below_within, below_readable}
+use Rattle.gds_tryout.proofs.RootLemmas.{root_readable}
+use Rattle.gds_tryout.proofs.ValueLemmas.{some_read}
+use Rattle.gds_tryout.proofs.WrittenLemmas.{written_split}
 
 module _ (file : List ℕ) (root leaf free : ℕ) (put firsts others : List Item) (at : RootOfLeaves file root)
     (c : CutsLeaf file root leaf free put firsts others) where
@@ -63,3 +71,88 @@ module _ (file : List ℕ) (root leaf free : ℕ) (put firsts others : List Item
   pub others_fit : packed_size others ≤ (fields_of file).block_size
   others_fit =
       omega (arith, ap packed_size c.behind, packed_size-back firsts (c.next ∷ c.rest), has_leaf.right.head.fits)
+
+-- a split that was written keeps the items
+pub split_done : (old new : List ℕ) (root leaf free : ℕ) → IsFree old free → free < 2 ^ 32 → (o : SplitOutcome)
+    → SplitBecame old new root leaf free o → o ≡ Done → (at : RootOfLeaves old root) → KeepsItems old new at.global
+split_done old new root leaf free is_free small Done s e at =
+    written_split old new at.global root leaf free s.put s.firsts s.others is_free s.writes
+    (plan_of_cut old root leaf free s.put s.firsts s.others at s.cuts is_free small)
+split_done old new root leaf free is_free small NotBelow s e at = absurd (cc)
+split_done old new root leaf free is_free small TooFew s e at = absurd (cc)
+split_done old new root leaf free is_free small NoRoom s e at = absurd (cc)
+
+-- ---- what was read
+
+-- no entry of those that were read leads to a block
+pub none_below : (file : List ℕ) (root leaf : ℕ) (es : List Item) → entries_of (block_of file root) ≡ Some es
+    → NoneLeads es leaf → IsNotBelow file root leaf
+none_below file root leaf es found none entries is =
+    subst (λ xs. NoneLeads xs leaf) (same_entries es entries (entries_of (block_of file root)) found is) none
+
+pub few_read : (file : List ℕ) (leaf : ℕ) (es : List Item) → entries_of (block_of file leaf) ≡ Some es
+    → length es < 2 → HasFew file leaf
+few_read file leaf es found few entries is =
+    subst (λ xs. length xs < 2) (same_entries es entries (entries_of (block_of file leaf)) found is) few
+
+pub root_read : (file : List ℕ) (root : ℕ) → RootOfLeaves file root → (o : Option (Vec Entry Global)) (v : Vec Entry Global)
+    → (IsBlock (block_of file root) → option_map (λ w. items w.items) o ≡ entries_of (block_of file root))
+    → o ≡ Some v → entries_of (block_of file root) ≡ Some (items v.items)
+root_read file root at o v read some =
+    some_read (λ w. items w.items) o (entries_of (block_of file root)) v (read (root_readable file root at)) some
+
+some_entry : (es : List Entry) (place : ℕ) → place < length es → Entry
+some_entry [] place low = absurd (omega (arith, low))
+some_entry (e ∷ es) place low = e
+
+module _ (file : List ℕ) (root leaf : ℕ) (at : RootOfLeaves file root) (es : List Entry)
+    (found : entries_of (block_of file root) ≡ Some (items es)) (place : ℕ) (leads : LeadsAt es leaf place) where
+  abbrev d : Entry
+  d = some_entry es place leads.there
+
+  abbrev front : List Item
+  front = items (take place es)
+
+  abbrev entry : Item
+  entry = item (slice_index_or es place d)
+
+  abbrev back : List Item
+  back = items (drop (place + 1) es)
+
+  found_parts : entries_of (block_of file root) ≡ Some (front ++ entry ∷ back)
+  found_parts = found ∙ ap (λ xs. Some xs) (items_around es place d leads.there)
+
+  pub found_within : leaf < (fields_of file).total
+  found_within =
+      subst (λ n. n < (fields_of file).total) (leads.leads d).leads
+      (below_within file root at front entry back found_parts)
+
+  pub found_readable : IsBlock (block_of file leaf)
+  found_readable =
+      subst (λ n. IsBlock (block_of file n)) (leads.leads d).leads
+      (below_readable file root at front entry back found_parts)
+
+  -- the entries of the leaf in two parts
+  pub cut_at : (all firsts others put : List Entry) (n free : ℕ) (e : Entry) (key : List ℕ)
+      → entries_of (block_of file leaf) ≡ Some (items all) → 0 < n → n < length all → firsts ≡ take n all
+      → others ≡ drop n all → key ≡ (slice_index_or others 0 e).key.items
+      → ((d : Entry) → items put ≡ parted front (item (slice_index_or es place d)) back key free)
+      → CutsLeaf file root leaf free (items put) (items firsts) (items others)
+  cut_at all firsts others put n free e key whole some less first last is two =
+      let long : length (take n all) ≡ n = length-take-le n all (omega (arith, less)) in
+      let more : 0 < length others = omega (arith, ap length last, length-drop n all, less) in
+      record {
+        front = front;
+        entry = entry;
+        back = back;
+        found = found_parts;
+        leads = (leads.leads d).leads;
+        next = item (slice_index_or others 0 e);
+        rest = items (drop 1 others);
+        behind = items_around others 0 e more;
+        before = omega (arith, some, long, ap length first, length-map firsts item);
+        whole = whole
+            ∙ ap (λ xs. Some xs) (ap items (sym (take-append-drop n all)) ∙ map-append item (take n all) (drop n all)
+            ∙ (λ k. items (sym first k) ++ items (sym last k)));
+        two = two d ∙ ap (λ k. parted front entry back k free) is;
+      }

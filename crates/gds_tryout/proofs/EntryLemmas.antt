@@ -1,7 +1,7 @@
 -- The entries of a leaf by their places.
 use Rattle.std.proofs.Common.{◌≡◌, ℕ, suc, ◌+◌, ◌<◌, List, [], ◌∷◌, ◌++◌, length, take, drop, slice_set, slice_index_or}
 use Rattle.std.proofs.Common.{sym, ap, ◌∙◌, arith}
-use Rattle.std.proofs.Common.{◌-◌, ◌≤◌, refl, w32, append-nil}
+use Rattle.std.proofs.Common.{◌-◌, refl, w32, append-nil}
 use Rattle.std.proofs.lemmas.List.{take-append-drop, take-set, drop-set, map-append, length-take-le}
 use Rattle.std.proofs.lemmas.List.Edits.{insert-append_right}
 use Rattle.std.specs.Prelude.{All, ◌^◌}
@@ -30,6 +30,11 @@ set_around : {A : Type 0} (xs : List A) (i : ℕ) (y : A) → i < length xs
 set_around xs i y low =
     sym (take-append-drop i (slice_set xs i y)) ∙ (λ k. take-set xs i y k ++ drop-set xs i y low k)
 
+pub items_around : (xs : List Entry) (i : ℕ) (d : Entry) → i < length xs
+    → items xs ≡ items (take i xs) ++ item (slice_index_or xs i d) ∷ items (drop (i + 1) xs)
+items_around xs i d low =
+    ap items (around xs i d low) ∙ map-append item (take i xs) (slice_index_or xs i d ∷ drop (i + 1) xs)
+
 pub value_set : (entries : List Entry) (key : List ℕ) (i : ℕ) (d : Entry) (e : Entry) → HasKeyAt entries key i
     → item e ≡ record { key = (slice_index_or entries i d).key.items; rest = e.rest.items }
     → SetsValue (items entries) (items (slice_set entries i e)) key e.rest.items
@@ -37,8 +42,7 @@ value_set entries key i d e has is = record {
   front = items (take i entries);
   rest = (slice_index_or entries i d).rest.items;
   back = items (drop (i + 1) entries);
-  before = ap items (around entries i d has.there)
-      ∙ map-append item (take i entries) (slice_index_or entries i d ∷ drop (i + 1) entries)
+  before = items_around entries i d has.there
       ∙ ap (λ k. items (take i entries) ++ record { key = k; rest = (slice_index_or entries i d).rest.items }
       ∷ items (drop (i + 1) entries)) (has.same d);
   after = ap items (set_around entries i e has.there)

@@ -6,17 +6,15 @@ use Rattle.std.specs.Prelude.{nat_eq, IsTrue}
 use Rattle.std.proofs.lemmas.Bool.{or_left, eq-eqb, eqb-true, ne_eqb}
 use Rattle.std.proofs.lemmas.List.Elements.{All-from_recursion}
 use Rattle.std.specs.List.{AllByRecursion, IsDistinct}
-use Rattle.gds_block.specs.Block.{level_of, used_of, IsBlock}
+use Rattle.gds_block.specs.Block.{level_of, IsBlock}
 use Rattle.gds_block.specs.Item.{Item}
 use Rattle.gds_header.specs.declared.header.Header.{Header}
 use Rattle.gds_header.specs.Fields.{fields_of, file_length_of, block_of}
 use Rattle.gds_header.specs.Kinds.{IsWithinLimits}
 use Rattle.gds_law.specs.Visit.{Visit}
 use Rattle.gds_law.proofs.MembershipLemmas.{IsIn}
-use Rattle.gds_pack.specs.Packed.{packed_size}
 use Rattle.gds_sound.specs.Sound.{Tree, sound_tree, root_of}
 use Rattle.gds_sound.proofs.CountLemmas.{count, count_append}
-use Rattle.gds_sound.proofs.HeaderLemmas.{block_whole}
 use Rattle.gds_sound.proofs.PathLemmas.{distinct_from_counts, any_counted, counted_any}
 use Rattle.gds_sound.proofs.TreeLemmas.{own_level}
 use Rattle.gds_tree.specs.Around.{around, IsAround}

@@ -154,3 +154,15 @@ module _ (file : List ℕ) (root : ℕ) (at : RootOfLeaves file root) where
   root_has es found =
       subst (HasEntries file top 1) (same_entries root_entries.es es (entries_of (block_of file top.block))
       root_entries.has.right.found (ap (λ n. entries_of (block_of file n)) at.block ∙ found)) root_entries.has
+
+  -- a leaf below it
+  module _ (front : List Item) (entry : Item) (back : List Item)
+      (found : entries_of (block_of file root) ≡ Some (front ++ entry ∷ back)) where
+    abbrev parts : InParts file at.global front entry back (root_has (front ++ entry ∷ back) found)
+    parts = in_parts file at.global front entry back (root_has (front ++ entry ∷ back) found)
+
+    pub below_within : u32_at entry.rest 0 < (fields_of file).total
+    below_within = parts.here.there
+
+    pub below_readable : IsBlock (block_of file (u32_at entry.rest 0))
+    below_readable = entries_block file at.global (below top front entry) 0 parts.es parts.here

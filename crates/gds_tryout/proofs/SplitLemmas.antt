@@ -20,10 +20,10 @@ use Rattle.m_key.specs.Key.{AtMost}
 use Rattle.gds_tree.specs.Around.{around}
 use Rattle.gds_tree.specs.Below.{low_behind, visit_below, both, trees_below, HasEntries, leaf_tree, index_tree}
 use Rattle.gds_tree.specs.Keeps.{IsImage, KeepsSizes, KeepsBlocks}
-use Rattle.gds_tree.proofs.BelowLemmas.{both_parts, some_both, below_append, low_append, joined_none}
+use Rattle.gds_tree.proofs.BelowLemmas.{some_both, low_append, joined_none}
 use Rattle.gds_tree.proofs.ReplaceLemmas.{replaced}
 use Rattle.gds_tree.proofs.RootLemmas.{same_entries}
-use Rattle.gds_tree.proofs.TreeByLemmas.{leaf_by, by_index}
+use Rattle.gds_tree.proofs.TreeByLemmas.{leaf_by}
 use Rattle.gds_tree.proofs.WidenLemmas.{most_same}
 use Rattle.gds_file.specs.Maps.{has_block, is_busy}
 use Rattle.gds_file.specs.Reshape.{Reshapes}
@@ -36,7 +36,7 @@ use Rattle.gds_file.proofs.TakeLemmas.{take_reshapes}
 use Rattle.gds_file.proofs.UseLemmas.{in_has}
 use Rattle.gds_tryout.specs.Global.{GlobalOf}
 use Rattle.gds_tryout.specs.Split.{SplitsLeaf, KeepsItems, below}
-use Rattle.gds_tryout.proofs.GlobalLemmas.{image_of, whole_image, tree_there, proper_there, busy_there, once_there}
+use Rattle.gds_tryout.proofs.GlobalLemmas.{image_of, whole_image, proper_there, busy_there, once_there}
 use Rattle.gds_tryout.proofs.LeafLemmas.{all_in}
 use Rattle.gds_tryout.proofs.RootLemmas.{InParts, in_parts}
 use Rattle.gds_tryout.proofs.RootLemmas.{counts as root_counts}

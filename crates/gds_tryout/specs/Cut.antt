@@ -1,5 +1,5 @@
 -- A leaf right below its global's root is cut: which entries three blocks are to have, and what became of it.
-use Rattle.std.specs.Prelude.{◌≡◌, ◌≢◌, ◌<◌, ℕ, List, ◌∷◌, ◌++◌, length, slice_index_or, All, Some}
+use Rattle.std.specs.Prelude.{◌≡◌, ◌<◌, ℕ, List, ◌∷◌, ◌++◌, length, slice_index_or, All, Some}
 use Rattle.gds_block.specs.Block.{level_of}
 use Rattle.gds_block.specs.Fields.{u32_at, u32_bytes}
 use Rattle.gds_block.specs.Item.{Item}

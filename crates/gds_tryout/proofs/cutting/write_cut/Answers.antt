@@ -1,8 +1,6 @@
-use Rattle.std.proofs.Common.{◌≡◌, ◌∙◌, ap, subst, arith}
+use Rattle.std.proofs.Common.{ap, arith}
 use Rattle.gds_header.specs.declared.header.Header.{Header}
-use Rattle.gds_header.specs.Fields.{fields_of}
 use Rattle.gds_pack.specs.Entry.{items}
-use Rattle.gds_tryout.specs.Split.{PlansSplit}
 use Rattle.gds_tryout.proofs.CutLemmas.{plan_of_cut, leaf_within, cut_apart, firsts_fit, others_fit}
 use Rattle.gds_tryout.proofs.GlobalLemmas.{lawful_file}
 use Rattle.gds_tryout.proofs.RootLemmas.{root_within}
