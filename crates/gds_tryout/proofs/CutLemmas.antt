@@ -1,6 +1,6 @@
 -- A leaf right below its global's root that is cut: what is known of the entries.
 use Rattle.std.proofs.Common.{◌≡◌, ◌≢◌, ℕ, ◌+◌, ◌<◌, ◌≤◌, List, [], ◌∷◌, ◌++◌, length, Some, sym, ap, subst, ◌∙◌}
-use Rattle.std.proofs.Common.{arith, take, drop, slice_index_or, length-drop, Option, Vec, Global}
+use Rattle.std.proofs.Common.{◌/◌, arith, take, drop, slice_index_or, length-drop, Option, Vec, Global}
 use Rattle.std.specs.Prelude.{◌^◌, option_map}
 use Rattle.std.proofs.lemmas.List.{take-append-drop, map-append, length-map, length-take-le}
 use Rattle.gds_block.specs.Block.{IsBlock}
@@ -43,7 +43,7 @@ module _ (file : List ℕ) (root leaf free : ℕ) (put firsts others : List Item
       (ap (λ n. entries_of (block_of file n)) c.leads ∙ c.whole ∙ ap (λ es. Some (firsts ++ es)) c.behind)) t.here
 
   some_first : firsts ≢ []
-  some_first e = omega (arith, c.before, ap length e)
+  some_first e = omega (arith, c.some, ap length e)
 
   pub plan_of_cut : IsFree file free → free < 2 ^ 32 → PlansSplit file at.global root leaf free put firsts others
   plan_of_cut is_free small =
@@ -134,13 +134,18 @@ module _ (file : List ℕ) (root leaf : ℕ) (at : RootOfLeaves file root) (es :
 
   -- the entries of the leaf in two parts
   pub cut_at : (all firsts others put : List Entry) (n free : ℕ) (e : Entry) (key : List ℕ)
-      → entries_of (block_of file leaf) ≡ Some (items all) → 0 < n → n < length all → firsts ≡ take n all
+      → entries_of (block_of file leaf) ≡ Some (items all) → n ≡ length all / 2 → 0 < n → n < length all
+      → firsts ≡ take n all
       → others ≡ drop n all → key ≡ (slice_index_or others 0 e).key.items
       → ((d : Entry) → items put ≡ parted front (item (slice_index_or es place d)) back key free)
       → CutsLeaf file root leaf free (items put) (items firsts) (items others)
-  cut_at all firsts others put n free e key whole some less first last is two =
+  cut_at all firsts others put n free e key whole middle some less first last is two =
       let long : length (take n all) ≡ n = length-take-le n all (omega (arith, less)) in
       let more : 0 < length others = omega (arith, ap length last, length-drop n all, less) in
+      let joined : items all ≡ items firsts ++ items others =
+      ap items (sym (take-append-drop n all)) ∙ map-append item (take n all) (drop n all)
+      ∙ (λ k. items (sym first k) ++ items (sym last k)) in
+      let size : length (items firsts) ≡ n = omega (arith, long, ap length first, length-map firsts item) in
       record {
         front = front;
         entry = entry;
@@ -150,9 +155,8 @@ module _ (file : List ℕ) (root leaf : ℕ) (at : RootOfLeaves file root) (es :
         next = item (slice_index_or others 0 e);
         rest = items (drop 1 others);
         behind = items_around others 0 e more;
-        before = omega (arith, some, long, ap length first, length-map firsts item);
-        whole = whole
-            ∙ ap (λ xs. Some xs) (ap items (sym (take-append-drop n all)) ∙ map-append item (take n all) (drop n all)
-            ∙ (λ k. items (sym first k) ++ items (sym last k)));
+        some = omega (arith, some, size);
+        half = size ∙ middle ∙ ap (λ m. m / 2) (sym (length-map all item) ∙ ap length joined);
+        whole = whole ∙ ap (λ xs. Some xs) joined;
         two = two d ∙ ap (λ k. parted front entry back k free) is;
       }

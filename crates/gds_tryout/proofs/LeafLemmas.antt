@@ -32,7 +32,7 @@ use Rattle.gds_file.proofs.UseLemmas.{in_has, IsProper}
 use Rattle.gds_tryout.specs.File.{IsFile}
 use Rattle.gds_tryout.specs.Global.{GlobalOf, LeafOf, SoundWith}
 use Rattle.gds_tryout.proofs.GlobalLemmas.{whole_image, lawful_file, tree_there, proper_there, busy_there, once_there}
-use Rattle.gds_tryout.proofs.GlobalLemmas.{entries_block}
+use Rattle.gds_tryout.proofs.GlobalLemmas.{root_proper, entries_block}
 
 -- ---- an image whose blocks are written anew
 
@@ -80,13 +80,6 @@ module _ (old : List ℕ) (number : ℕ) (at : LeafOf old number) where
       let up : length at.path + 0 ≡ level_of (block_of old root.block) = omega (arith, at.height) in
       ap (λ n. sound_tree old n root) up ∙ tree_there old g
 
-  root_proper : IsProper old root.block
-  root_proper =
-      let p = first_block old (length at.path + 0) root g.tree tree_down in
-      proper_there old g root.block
-      (ap (λ blocks. has_block blocks root.block) (sym p.1)
-      ∙ or_left (nat_eq root.block root.block) (has_block p.0 root.block) (eq-eqb root.block root.block refl))
-
   -- Its tree, and the leaf in it.
   pub record InTree : Type 0 where
     pub place : IsAround old root at.path at.visit 0 g.tree
@@ -107,7 +100,7 @@ module _ (old : List ℕ) (number : ℕ) (at : LeafOf old number) where
 
   pub in_tree : InTree
   in_tree =
-      let place = around_path old i at.path root at.visit 0 g.tree root_proper.within at.leads tree_down in
+      let place = around_path old i at.path root at.visit 0 g.tree (root_proper old g).within at.leads tree_down in
       let n : ℕ = at.visit.block in
       let p = first_block old 0 at.visit place.inner place.sound in
       let here : IsTrue (has_block place.inner.blocks n) =

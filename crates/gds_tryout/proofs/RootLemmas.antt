@@ -1,7 +1,7 @@
 -- A global's root of level 1, and the leaves right below it.
 use Rattle.std.proofs.Common.{◌≡◌, ◌≢◌, ℕ, ◌+◌, ◌<◌, ◌≤◌, false, List, [], ◌∷◌, ◌++◌, Some, refl, sym, ap, subst, ◌∙◌, arith}
 use Rattle.std.specs.Prelude.{nat_eq, IsTrue}
-use Rattle.std.proofs.lemmas.Bool.{or_left, eq-eqb, both_ways}
+use Rattle.std.proofs.lemmas.Bool.{or_left, eq-eqb}
 use Rattle.gds_block.specs.Block.{level_of, IsBlock}
 use Rattle.gds_block.specs.Fields.{u32_at}
 use Rattle.gds_block.specs.Item.{Item}
@@ -14,18 +14,20 @@ use Rattle.gds_sound.proofs.PathLemmas.{any_counted, counted_any}
 use Rattle.gds_tree.specs.Below.{low_behind, trees_below, HasEntries, leaf_tree, index_tree}
 use Rattle.gds_tree.specs.Keeps.{IsImage}
 use Rattle.gds_tree.specs.Lawful.{IsLawfulEntry}
-use Rattle.gds_tree.proofs.BelowLemmas.{all_right, both_parts, below_append, first_block}
+use Rattle.gds_tree.proofs.BelowLemmas.{all_right, both_parts, below_append}
 use Rattle.gds_tree.proofs.KeepLemmas.{pointers}
 use Rattle.gds_tree.proofs.PartLemmas.{lawful_index}
 use Rattle.gds_tree.proofs.RootLemmas.{same_entries}
 use Rattle.gds_tree.proofs.TreeByLemmas.{IndexBy, by_leaf, by_index}
-use Rattle.gds_file.specs.Maps.{has_block, is_busy}
+use Rattle.gds_file.specs.Maps.{has_block}
 use Rattle.gds_file.specs.TakeLaws.{IsFree}
-use Rattle.gds_file.proofs.UseLemmas.{IsProper}
 use Rattle.gds_tryout.specs.Cut.{RootOfLeaves}
 use Rattle.gds_tryout.specs.Global.{GlobalOf}
 use Rattle.gds_tryout.specs.Split.{below}
-use Rattle.gds_tryout.proofs.GlobalLemmas.{whole_image, tree_there, proper_there, busy_there, entries_block}
+use Rattle.gds_tryout.proofs.GlobalLemmas.{whole_image, tree_there, root_proper, not_free, entries_block}
+
+pub own_count : (n : ℕ) → 1 ≤ count n (n ∷ [])
+own_count n = any_counted n (n ∷ []) (or_left (nat_eq n n) false (eq-eqb n n refl))
 
 -- ---- a leaf below an entry of the root
 
@@ -96,25 +98,17 @@ module _ (file : List ℕ) (g : GlobalOf file) (front : List Item) (entry : Item
         count_append n (leaf.block ∷ []) t.behind.blocks,
       )
 
-  own_count : (n : ℕ) → 1 ≤ count n (n ∷ [])
-  own_count n = any_counted n (n ∷ []) (or_left (nat_eq n n) false (eq-eqb n n refl))
-
-  root_in : IsTrue (has_block g.tree.blocks root.block)
+  pub root_in : IsTrue (has_block g.tree.blocks root.block)
   root_in = counted_any root.block g.tree.blocks (omega (arith, counts root.block, own_count root.block))
 
-  leaf_in : IsTrue (has_block g.tree.blocks leaf.block)
+  pub leaf_in : IsTrue (has_block g.tree.blocks leaf.block)
   leaf_in = counted_any leaf.block g.tree.blocks (omega (arith, counts leaf.block, own_count leaf.block))
-
-  -- a block of the tree isn't free
-  not_free : (free n : ℕ) → IsFree file free → IsTrue (has_block g.tree.blocks n) → n ≢ free
-  not_free free n is_free there e =
-      both_ways (is_busy file n) (ap (is_busy file) e ∙ is_free.free) (busy_there file g n there)
 
   pub apart : (free : ℕ) → IsFree file free → (leaf.block ≢ free) × (leaf.block ≢ root.block) × (free ≢ root.block)
   apart free is_free = (
-    not_free free leaf.block is_free leaf_in,
+    not_free file g leaf.block free is_free leaf_in,
     λ e. levels (sym in_parts.here.level ∙ ap (λ n. level_of (block_of file n)) e ∙ has.level),
-    λ e. not_free free root.block is_free root_in (sym e),
+    λ e. not_free file g root.block free is_free root_in (sym e),
   )
     where
       levels : ◌≡◌ {A = ℕ} 0 1 → ⊥
@@ -131,18 +125,11 @@ module _ (file : List ℕ) (root : ℕ) (at : RootOfLeaves file root) where
       ap (λ n. sound_tree file n top) (sym (ap (λ n. level_of (block_of file n)) at.block ∙ at.level))
       ∙ tree_there file at.global
 
-  top_proper : IsProper file top.block
-  top_proper =
-      let p = first_block file 1 top at.global.tree sound_top in
-      proper_there file at.global top.block
-      (ap (λ blocks. has_block blocks top.block) (sym p.1)
-      ∙ or_left (nat_eq top.block top.block) (has_block p.0 top.block) (eq-eqb top.block top.block refl))
-
   root_entries : IndexBy file top 0 at.global.tree
-  root_entries = by_index file top 0 at.global.tree (whole_image file at.global) top_proper.within sound_top
+  root_entries = by_index file top 0 at.global.tree (whole_image file at.global) (root_proper file at.global).within sound_top
 
   pub root_within : root < (fields_of file).total
-  root_within = subst (λ n. n < (fields_of file).total) at.block top_proper.within
+  root_within = subst (λ n. n < (fields_of file).total) at.block (root_proper file at.global).within
 
   pub root_readable : IsBlock (block_of file root)
   root_readable =

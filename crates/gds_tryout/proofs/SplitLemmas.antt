@@ -3,7 +3,7 @@ use Rattle.std.proofs.Common.{◌≡◌, ◌≢◌, ℕ, ◌+◌, ◌%◌, ◌<�
 use Rattle.std.proofs.Common.{◌∷◌, ◌++◌, Option, Some, refl, sym, ap, subst, ◌∙◌, arith, inl, inr}
 use Rattle.std.proofs.Common.{append_assoc}
 use Rattle.std.specs.Prelude.{nat_eq, IsTrue}
-use Rattle.std.proofs.lemmas.Bool.{or_left, or_right, or_cases, eq-eqb, eqb-true, ne_eqb, both_ways, cases_lt}
+use Rattle.std.proofs.lemmas.Bool.{or_left, or_right, or_cases, eqb-true, ne_eqb, cases_lt}
 use Rattle.std.proofs.lemmas.Bool.{cases_eq}
 use Rattle.std.proofs.lemmas.List.Elements.{All-from_recursion}
 use Rattle.gds_block.specs.Fields.{u32_at}
@@ -36,9 +36,9 @@ use Rattle.gds_file.proofs.TakeLemmas.{take_reshapes}
 use Rattle.gds_file.proofs.UseLemmas.{in_has}
 use Rattle.gds_tryout.specs.Global.{GlobalOf}
 use Rattle.gds_tryout.specs.Split.{SplitsLeaf, KeepsItems, below}
-use Rattle.gds_tryout.proofs.GlobalLemmas.{image_of, whole_image, proper_there, busy_there, once_there}
+use Rattle.gds_tryout.proofs.GlobalLemmas.{image_of, whole_image, proper_there, busy_there, once_there, not_free}
 use Rattle.gds_tryout.proofs.LeafLemmas.{all_in}
-use Rattle.gds_tryout.proofs.RootLemmas.{InParts, in_parts}
+use Rattle.gds_tryout.proofs.RootLemmas.{InParts, in_parts, own_count, root_in, leaf_in}
 use Rattle.gds_tryout.proofs.RootLemmas.{counts as root_counts}
 
 same_tree : (o : Option Tree) (x y : Tree) → o ≡ Some x → o ≡ Some y → x ≡ y
@@ -86,13 +86,6 @@ module _ (old mid new : List ℕ) (g : GlobalOf old) (free : ℕ) (s : SplitsLea
       ≡ count n (root.block ∷ []) + (count n t.before.blocks + (count n (leaf ∷ []) + count n t.behind.blocks))
   counts = root_counts old g s.front s.entry s.back s.root
 
-  own_count : (n : ℕ) → 1 ≤ count n (n ∷ [])
-  own_count n = any_counted n (n ∷ []) (or_left (nat_eq n n) false (eq-eqb n n refl))
-
-  not_taken : (n : ℕ) → IsTrue (has_block g.tree.blocks n) → n ≢ free
-  not_taken n there e =
-      both_ways (is_busy old n) (ap (is_busy old) e ∙ s.is_free.free) (busy_there old g n there)
-
   -- another block of the tree stays
   kept : (n : ℕ) → 1 ≤ count n t.before.blocks + count n t.behind.blocks → block_of new n ≡ block_of old n
   kept n some =
@@ -113,7 +106,7 @@ module _ (old mid new : List ℕ) (g : GlobalOf old) (free : ℕ) (s : SplitsLea
         once,
         subst (λ m. 1 ≤ count n (m ∷ [])) e (own_count n),
       ) in
-      s.writes.others n (λ k. ne_eqb n root.block no_root k || (ne_eqb n leaf no_leaf k || (ne_eqb n free (not_taken n
+      s.writes.others n (λ k. ne_eqb n root.block no_root k || (ne_eqb n leaf no_leaf k || (ne_eqb n free (not_free old g n free s.is_free
       there) k || false)))
       ∙ s.takes.others n (λ e. proper.no_map (omega (arith, e)))
 
@@ -140,22 +133,16 @@ module _ (old mid new : List ℕ) (g : GlobalOf old) (free : ℕ) (s : SplitsLea
   more : (fields_of old).total ≤ (fields_of new).total
   more = omega (arith, ap (λ h. h.total) new_fields, ap (λ h. h.total) s.takes.fields)
 
-  root_there : IsTrue (has_block g.tree.blocks root.block)
-  root_there = counted_any root.block g.tree.blocks (omega (arith, counts root.block, own_count root.block))
-
-  leaf_there : IsTrue (has_block g.tree.blocks leaf)
-  leaf_there = counted_any leaf g.tree.blocks (omega (arith, counts leaf, own_count leaf))
-
   abbrev all : List ℕ
   all = free ∷ g.tree.blocks
 
   among : (n : ℕ) → IsTrue (has_block written n) → IsTrue (has_block all n)
   among n h = elim (or_cases (nat_eq n root.block) (has_block (leaf ∷ free ∷ []) n) h) [
     | inl e ↦ or_right (nat_eq n free) (has_block g.tree.blocks n)
-        (subst (λ m. IsTrue (has_block g.tree.blocks m)) (sym (eqb-true n root.block e)) root_there)
+        (subst (λ m. IsTrue (has_block g.tree.blocks m)) (sym (eqb-true n root.block e)) (root_in old g s.front s.entry s.back s.root))
     | inr more ↦ elim (or_cases (nat_eq n leaf) (has_block (free ∷ []) n) more) [
       | inl e ↦ or_right (nat_eq n free) (has_block g.tree.blocks n)
-          (subst (λ m. IsTrue (has_block g.tree.blocks m)) (sym (eqb-true n leaf e)) leaf_there)
+          (subst (λ m. IsTrue (has_block g.tree.blocks m)) (sym (eqb-true n leaf e)) (leaf_in old g s.front s.entry s.back s.root))
       | inr last ↦ or_left (nat_eq n free) (has_block g.tree.blocks n) (or_end (nat_eq n free) last)
     ]
   ]
@@ -252,7 +239,7 @@ module _ (old mid new : List ℕ) (g : GlobalOf old) (free : ℕ) (s : SplitsLea
         | inr none ↦ omega (arith, none)
         | inl one ↦
             let same = eqb-true n free (or_end (nat_eq n free) (counted_any n (free ∷ []) (omega (arith, one)))) in
-            absurd (not_taken n (counted_any n g.tree.blocks (omega (arith, some))) same)
+            absurd (not_free old g n free s.is_free (counted_any n g.tree.blocks (omega (arith, some))) same)
       ]
 
   reshaped : Reshapes old new g.tree.blocks tree_now.blocks

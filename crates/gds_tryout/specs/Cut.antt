@@ -1,5 +1,5 @@
 -- A leaf right below its global's root is cut: which entries three blocks are to have, and what became of it.
-use Rattle.std.specs.Prelude.{◌≡◌, ◌<◌, ℕ, List, ◌∷◌, ◌++◌, length, slice_index_or, All, Some}
+use Rattle.std.specs.Prelude.{◌≡◌, ◌<◌, ◌/◌, ℕ, List, ◌∷◌, ◌++◌, length, slice_index_or, All, Some}
 use Rattle.gds_block.specs.Block.{level_of}
 use Rattle.gds_block.specs.Fields.{u32_at, u32_bytes}
 use Rattle.gds_block.specs.Item.{Item}
@@ -40,8 +40,8 @@ abbrev pub parted : List Item → Item → List Item → List ℕ → ℕ → Li
 parted front entry back key free =
     front ++ record { key = key; rest = entry.rest } ∷ record { key = entry.key; rest = u32_bytes free } ∷ back
 
--- The entries of a leaf in two parts, of which each has some, and those of the root, where the first key of the second
--- part parts the entry that leads to the leaf.
+-- The entries of a leaf in two halves, of which each has some, and those of the root, where the first key of the second
+-- half parts the entry that leads to the leaf.
 pub record CutsLeaf (file : List ℕ) (root leaf free : ℕ) (put firsts others : List Item) : Type 0 where
   pub front : List Item
   pub entry : Item
@@ -51,7 +51,8 @@ pub record CutsLeaf (file : List ℕ) (root leaf free : ℕ) (put firsts others 
   pub next : Item
   pub rest : List Item
   pub behind : others ≡ next ∷ rest
-  pub before : 0 < length firsts
+  pub some : 0 < length firsts
+  pub half : length firsts ≡ length (firsts ++ others) / 2
   pub whole : entries_of (block_of file leaf) ≡ Some (firsts ++ others)
   pub two : put ≡ parted front entry back next.key free
 

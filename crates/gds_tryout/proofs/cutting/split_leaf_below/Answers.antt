@@ -1,4 +1,4 @@
-use Rattle.std.proofs.Common.{◌∙◌, ◌/◌, List, slice_index_or, refl, sym, ap, subst, arith}
+use Rattle.std.proofs.Common.{length, ◌≡◌, ◌∙◌, ◌/◌, List, slice_index_or, refl, sym, ap, subst, arith}
 use Rattle.std.proofs.lemmas.List.{length-map}
 use Rattle.gds_header.specs.declared.header.Header.{Header}
 use Rattle.gds_header.specs.Fields.{block_of}
@@ -97,10 +97,12 @@ write_cut-requires-clause-cut c =
     c.in-Some.put.items found c.in-Some-find_pointer.place leads) in
     let whole = some_read (λ v. items v.items) c.in_ok-firsts.field-0
     (entries_of (block_of c.args.file.now c.args.leaf)) c.in-Some-2.firsts read c.in-Some-2.is in
+    let size : c.len-2.result ≡ length c.in-Some-2.firsts.items = omega (arith, c.len-2.ensures) in
     let there : Entry = c.index.result.now in
     cut_at c.args.file.now c.args.root c.args.leaf c.requires.root c.in-Some.put.items found
     c.in-Some-find_pointer.place leads c.in-Some-2.firsts.items c.deref-3.result.now c.deref-4.result.now
     c.deref-2.result.now (c.len-2.result / 2) c.args.free there c.as_slice.result.now whole
+    (ap (λ n. n / 2) size)
     (omega (arith, c.len-2.ensures, c.len.ensures, c.if-len-lt2.false))
     (omega (arith, c.len-2.ensures, c.len.ensures, c.if-len-lt2.false))
     (c.deref-3.ensures.value ∙ c.in_ok-others.ensures.items) (c.deref-4.ensures.value ∙ c.in_ok-others.ensures.tail)
