@@ -1,5 +1,5 @@
 -- A leaf right below its global's root that is cut: what is known of the entries.
-use Rattle.std.proofs.Common.{◌≡◌, ◌≢◌, ℕ, ◌+◌, ◌<◌, ◌≤◌, List, [], ◌∷◌, ◌++◌, length, Some, sym, ap, subst, ◌∙◌}
+use Rattle.std.proofs.Common.{refl, ◌≡◌, ◌≢◌, ℕ, ◌+◌, ◌<◌, ◌≤◌, List, [], ◌∷◌, ◌++◌, length, Some, sym, ap, subst, ◌∙◌}
 use Rattle.std.proofs.Common.{◌/◌, arith, take, drop, slice_index_or, length-drop, Option, Vec, Global}
 use Rattle.std.specs.Prelude.{◌^◌, option_map}
 use Rattle.std.proofs.lemmas.List.{take-append-drop, map-append, length-map, length-take-le}
@@ -13,6 +13,16 @@ use Rattle.gds_pack.specs.Packed.{packed_size}
 use Rattle.gds_pack.proofs.SizeLemmas.{packed_size-front, packed_size-back}
 use Rattle.gds_pack.specs.Unpacked.{entries_of}
 use Rattle.gds_sound.specs.Sound.{root_of}
+use Rattle.std.specs.Prelude.{◌↔◌}
+use Rattle.std.specs.FinMap.{get}
+use Rattle.m_key.specs.Globals.{Globals}
+use Rattle.gds_law.proofs.MembershipLemmas.{IsIn}
+use Rattle.gds_sound.specs.Stands.{StandsFor}
+use Rattle.gds_sound.specs.Sound.{Tree}
+use Rattle.gds_file.specs.Change.{items_in, item_at}
+use Rattle.gds_file.proofs.ChangeLemmas.{items_parted}
+use Rattle.gds_file.proofs.ItemLemmas.{items_stood_for, stands_for_items}
+use Rattle.gds_tryout.specs.Global.{GlobalOf}
 use Rattle.gds_tree.specs.Below.{HasEntries}
 use Rattle.gds_tree.proofs.RootLemmas.{same_entries}
 use Rattle.gds_file.specs.TakeLaws.{IsFree}
@@ -81,6 +91,28 @@ split_done old new root leaf free is_free small Done s e at =
 split_done old new root leaf free is_free small NotBelow s e at = absurd (cc)
 split_done old new root leaf free is_free small TooFew s e at = absurd (cc)
 split_done old new root leaf free is_free small NoRoom s e at = absurd (cc)
+
+-- the file stands for the map that it stood for
+pub same_map : (old new : List ℕ) (g : GlobalOf old) → KeepsItems old new g → (m : Globals) → StandsFor old m
+    → StandsFor new m
+same_map old new g k m stands =
+    let before : List Tree = g.left ++ g.tree ∷ g.right in
+    let now : List Tree = g.left ++ k.tree ∷ g.right in
+    let same : items_in before ≡ items_in now =
+    items_parted g.left g.tree g.right
+    ∙ ap (λ xs. items_in g.left ++ (xs ++ items_in g.right)) (sym k.items)
+    ∙ sym (items_parted g.left k.tree g.right) in
+    let had = items_stood_for old g.directory before m g.sound stands in
+    stands_for_items new g.directory now m k.sound (λ p value. subst (λ xs. (get m p ≡ Some value)
+    ↔ IsIn xs (item_at p.node value)) same (had p value))
+
+pub map_stays : (old new : List ℕ) (root leaf free : ℕ) → IsFree old free → free < 2 ^ 32 → (o : SplitOutcome)
+    → SplitBecame old new root leaf free o → RootOfLeaves old root → (m : Globals) → StandsFor old m → StandsFor new m
+map_stays old new root leaf free is_free small Done s at m stands =
+    same_map old new at.global (split_done old new root leaf free is_free small Done s refl at) m stands
+map_stays old new root leaf free is_free small NotBelow s at m stands = subst (λ f. StandsFor f m) (sym s.0) stands
+map_stays old new root leaf free is_free small TooFew s at m stands = subst (λ f. StandsFor f m) (sym s.0) stands
+map_stays old new root leaf free is_free small NoRoom s at m stands = subst (λ f. StandsFor f m) (sym s.0) stands
 
 -- ---- what was read
 

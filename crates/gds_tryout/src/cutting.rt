@@ -5,6 +5,8 @@ ghost use Rattle.gds_header.specs.Fields.{fields_of};
 ghost use Rattle.gds_file.specs.TakeLaws.{IsFree};
 ghost use Rattle.gds_pack.specs.declared.entry.Entry.{Entry};
 ghost use Rattle.gds_pack.specs.Entry.{item, items};
+ghost use Rattle.gds_sound.specs.Stands.{StandsFor};
+ghost use Rattle.m_key.specs.Globals.{Globals};
 ghost use Rattle.gds_tryout.specs.Cut.{RootOfLeaves, LeadsTo, LeadsAt, NoneLeads, parted, CutsLeaf, SplitBecame};
 ghost use Rattle.gds_tryout.specs.Split.{KeepsItems};
 ghost use Rattle.gds_tryout.specs.declared.cutting.SplitOutcome.TheVariants.{Done};
@@ -51,6 +53,8 @@ pub fn split_leaf_below(
     // Whichever global's root it is, the file is sound with a tree of the same items in the place of that global's.
     ensures sound { IfOk result (λ outcome. outcome ≡ Done → (place : RootOfLeaves file.old root)
         → KeepsItems file.old file.new place.global) }
+    // Whatever became of it, the file stands for the same map.
+    ensures map { (m : Globals) → StandsFor file.old m → StandsFor file.new m }
 {
     let Some(mut put) = read_entries(alloc, file, header, root)? else {
         return Ok(SplitOutcome::NotBelow);

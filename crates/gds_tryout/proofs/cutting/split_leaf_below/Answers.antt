@@ -7,7 +7,7 @@ use Rattle.gds_pack.specs.Entry.{item, items}
 use Rattle.gds_pack.specs.Unpacked.{entries_of}
 use Rattle.gds_tryout.specs.Cut.{NoneLeads, LeadsAt}
 use Rattle.gds_tryout.proofs.CutLemmas.{split_done, none_below, few_read, root_read, found_within, found_readable}
-use Rattle.gds_tryout.proofs.CutLemmas.{cut_at}
+use Rattle.gds_tryout.proofs.CutLemmas.{cut_at, map_stays}
 use Rattle.gds_tryout.proofs.GlobalLemmas.{whole_image}
 use Rattle.gds_tryout.proofs.RootLemmas.{root_within, root_readable}
 use Rattle.gds_tryout.proofs.ValueLemmas.{none_read, some_read}
@@ -115,3 +115,8 @@ pub returns-clause-sound : goal.returns-clause-sound
 returns-clause-sound c = λ is place.
     split_done c.args.file.now c.write_cut.new.file c.args.root c.args.leaf c.args.free c.requires.free (omega arith)
     c.write_cut.result c.write_cut.ensures.became is place
+
+pub returns-clause-map : goal.returns-clause-map
+returns-clause-map c =
+    map_stays c.args.file.now c.write_cut.new.file c.args.root c.args.leaf c.args.free c.requires.free (omega arith)
+    c.write_cut.result c.write_cut.ensures.became c.requires.root
