@@ -1,21 +1,26 @@
 -- What is known of a global of a sound file, and that its tree may change.
-use Rattle.std.proofs.Common.{◌≡◌, ℕ, ◌+◌, ◌≤◌, ◌==◌, List, [], ◌∷◌, ◌++◌, length, Some, refl, subst, ◌∙◌, arith}
+use Rattle.std.proofs.Common.{◌≡◌, ℕ, ◌+◌, ◌≤◌, ◌==◌, List, [], ◌∷◌, ◌++◌, length, Some, refl, sym, ap, subst, ◌∙◌, arith}
 use Rattle.std.proofs.Common.{inl, inr}
-use Rattle.std.specs.Prelude.{◌^◌, nat_lt, IsTrue}
-use Rattle.std.proofs.lemmas.Bool.{ltb-false, eqb-false, or_parts}
+use Rattle.std.specs.Prelude.{◌^◌, ◌≢◌, nat_eq, nat_lt, IsTrue}
+use Rattle.std.proofs.lemmas.Bool.{ltb-false, eqb-false, eq-eqb, or_left, or_parts, both_ways}
 use Rattle.gds_header.specs.declared.kind.HeaderKind.TheVariants.{ShortFile, BadTransactionNumber}
-use Rattle.gds_header.specs.Fields.{fields_of, image_length}
+use Rattle.gds_block.specs.Block.{level_of, IsBlock}
+use Rattle.gds_block.specs.Item.{Item}
+use Rattle.gds_header.specs.Fields.{fields_of, image_length, block_of}
 use Rattle.gds_header.specs.Kinds.{header_faults}
 use Rattle.gds_law.specs.Visit.{Visit}
 use Rattle.gds_sound.specs.Sound.{tree_at, root_of}
 use Rattle.gds_sound.proofs.CountLemmas.{count}
-use Rattle.gds_sound.proofs.HeaderLemmas.{limits_of, none_of_header}
+use Rattle.gds_sound.proofs.HeaderLemmas.{limits_of, none_of_header, block_whole}
 use Rattle.gds_sound.proofs.PathLemmas.{counts_from_distinct, any_counted, counted_any}
 use Rattle.gds_sound.proofs.SoundLemmas.{AreTrees, blocks_of}
+use Rattle.gds_tree.specs.Below.{HasEntries}
 use Rattle.gds_tree.specs.Keeps.{IsImage}
-use Rattle.gds_file.specs.Maps.{has_block}
+use Rattle.gds_tree.proofs.BelowLemmas.{first_block}
+use Rattle.gds_file.specs.Maps.{has_block, is_busy}
 use Rattle.gds_file.specs.FileLaws.{IsLawful}
 use Rattle.gds_file.specs.Rewrite.{AreAllBusy}
+use Rattle.gds_file.specs.TakeLaws.{IsFree}
 use Rattle.gds_file.proofs.FileLemmas.{trees_split, with_global, beside}
 use Rattle.gds_file.proofs.UseLemmas.{IsProper, proper_block}
 use Rattle.gds_file.proofs.RightMapLemmas.{maps_in_two_parts}
@@ -80,3 +85,29 @@ module _ (file : List ℕ) (g : GlobalOf file) where
 
   pub once_there : (n : ℕ) → count n g.tree.blocks ≤ 1
   once_there n = omega (arith, counted n, counts_from_distinct all g.sound.distinct n)
+
+  -- its root is one of them
+  pub root_proper : IsProper file root.block
+  root_proper =
+      let p = first_block file (level_of (block_of file root.block)) root g.tree tree_there in
+      proper_there root.block
+      (ap (λ blocks. has_block blocks root.block) (sym p.1)
+      ∙ or_left (nat_eq root.block root.block) (has_block p.0 root.block) (eq-eqb root.block root.block refl))
+
+  -- a free block is none of them
+  pub not_free : (n free : ℕ) → IsFree file free → IsTrue (has_block g.tree.blocks n) → n ≢ free
+  not_free n free is_free there e =
+      both_ways (is_busy file n) (ap (is_busy file) e ∙ is_free.free) (busy_there n there)
+
+  -- a block with entries can be read
+  pub entries_block : (v : Visit) (level : ℕ) (es : List Item) → HasEntries file v level es
+      → IsBlock (block_of file v.block)
+  entries_block v level es has =
+      let size = block_whole file v.block g.sound.header has.there in
+      let head = has.right.head in
+      let most = whole_image.limits.block_from in
+      record {
+        head = omega (arith, size, most);
+        covered = omega (arith, head.used);
+        within = omega (arith, head.used, head.fits, size);
+      }

@@ -6,17 +6,15 @@ use Rattle.std.specs.Prelude.{nat_eq, IsTrue}
 use Rattle.std.proofs.lemmas.Bool.{or_left, eq-eqb, eqb-true, ne_eqb}
 use Rattle.std.proofs.lemmas.List.Elements.{All-from_recursion}
 use Rattle.std.specs.List.{AllByRecursion, IsDistinct}
-use Rattle.gds_block.specs.Block.{level_of, used_of, IsBlock}
+use Rattle.gds_block.specs.Block.{level_of, IsBlock}
 use Rattle.gds_block.specs.Item.{Item}
 use Rattle.gds_header.specs.declared.header.Header.{Header}
 use Rattle.gds_header.specs.Fields.{fields_of, file_length_of, block_of}
 use Rattle.gds_header.specs.Kinds.{IsWithinLimits}
 use Rattle.gds_law.specs.Visit.{Visit}
 use Rattle.gds_law.proofs.MembershipLemmas.{IsIn}
-use Rattle.gds_pack.specs.Packed.{packed_size}
 use Rattle.gds_sound.specs.Sound.{Tree, sound_tree, root_of}
 use Rattle.gds_sound.proofs.CountLemmas.{count, count_append}
-use Rattle.gds_sound.proofs.HeaderLemmas.{block_whole}
 use Rattle.gds_sound.proofs.PathLemmas.{distinct_from_counts, any_counted, counted_any}
 use Rattle.gds_sound.proofs.TreeLemmas.{own_level}
 use Rattle.gds_tree.specs.Around.{around, IsAround}
@@ -34,6 +32,7 @@ use Rattle.gds_file.proofs.UseLemmas.{in_has, IsProper}
 use Rattle.gds_tryout.specs.File.{IsFile}
 use Rattle.gds_tryout.specs.Global.{GlobalOf, LeafOf, SoundWith}
 use Rattle.gds_tryout.proofs.GlobalLemmas.{whole_image, lawful_file, tree_there, proper_there, busy_there, once_there}
+use Rattle.gds_tryout.proofs.GlobalLemmas.{root_proper, entries_block}
 
 -- ---- an image whose blocks are written anew
 
@@ -81,13 +80,6 @@ module _ (old : List ℕ) (number : ℕ) (at : LeafOf old number) where
       let up : length at.path + 0 ≡ level_of (block_of old root.block) = omega (arith, at.height) in
       ap (λ n. sound_tree old n root) up ∙ tree_there old g
 
-  root_proper : IsProper old root.block
-  root_proper =
-      let p = first_block old (length at.path + 0) root g.tree tree_down in
-      proper_there old g root.block
-      (ap (λ blocks. has_block blocks root.block) (sym p.1)
-      ∙ or_left (nat_eq root.block root.block) (has_block p.0 root.block) (eq-eqb root.block root.block refl))
-
   -- Its tree, and the leaf in it.
   pub record InTree : Type 0 where
     pub place : IsAround old root at.path at.visit 0 g.tree
@@ -108,7 +100,7 @@ module _ (old : List ℕ) (number : ℕ) (at : LeafOf old number) where
 
   pub in_tree : InTree
   in_tree =
-      let place = around_path old i at.path root at.visit 0 g.tree root_proper.within at.leads tree_down in
+      let place = around_path old i at.path root at.visit 0 g.tree (root_proper old g).within at.leads tree_down in
       let n : ℕ = at.visit.block in
       let p = first_block old 0 at.visit place.inner place.sound in
       let here : IsTrue (has_block place.inner.blocks n) =
@@ -226,13 +218,4 @@ module _ (file : List ℕ) (number : ℕ) (at : LeafOf file number) where
   pub leaf_block : IsBlock (block_of file number)
   leaf_block =
       let t = in_tree file number at in
-      let size = block_whole file number at.global.sound.header (leaf_proper file number at).within in
-      let head = t.has.right.head in
-      let most = (whole_image file at.global).limits.block_from in
-      let used : used_of (block_of file number) ≡ packed_size t.es =
-      ap (λ n. used_of (block_of file n)) (sym at.ends) ∙ head.used in
-      record {
-        head = omega (arith, size, most);
-        covered = omega (arith, used);
-        within = omega (arith, used, head.fits, size);
-      }
+      subst (λ n. IsBlock (block_of file n)) at.ends (entries_block file at.global at.visit 0 t.es t.has)

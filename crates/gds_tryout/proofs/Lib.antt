@@ -8,3 +8,6 @@ pub mod HeaderLemmas
 pub mod TakingLemmas
 pub mod SplitLemmas
 pub mod WrittenLemmas
+pub mod PlanLemmas
+pub mod RootLemmas
+pub mod CutLemmas

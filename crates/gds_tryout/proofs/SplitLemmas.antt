@@ -3,7 +3,7 @@ use Rattle.std.proofs.Common.{◌≡◌, ◌≢◌, ℕ, ◌+◌, ◌%◌, ◌<�
 use Rattle.std.proofs.Common.{◌∷◌, ◌++◌, Option, Some, refl, sym, ap, subst, ◌∙◌, arith, inl, inr}
 use Rattle.std.proofs.Common.{append_assoc}
 use Rattle.std.specs.Prelude.{nat_eq, IsTrue}
-use Rattle.std.proofs.lemmas.Bool.{or_left, or_right, or_cases, eq-eqb, eqb-true, ne_eqb, both_ways, cases_lt}
+use Rattle.std.proofs.lemmas.Bool.{or_left, or_right, or_cases, eqb-true, ne_eqb, cases_lt}
 use Rattle.std.proofs.lemmas.Bool.{cases_eq}
 use Rattle.std.proofs.lemmas.List.Elements.{All-from_recursion}
 use Rattle.gds_block.specs.Fields.{u32_at}
@@ -20,10 +20,10 @@ use Rattle.m_key.specs.Key.{AtMost}
 use Rattle.gds_tree.specs.Around.{around}
 use Rattle.gds_tree.specs.Below.{low_behind, visit_below, both, trees_below, HasEntries, leaf_tree, index_tree}
 use Rattle.gds_tree.specs.Keeps.{IsImage, KeepsSizes, KeepsBlocks}
-use Rattle.gds_tree.proofs.BelowLemmas.{both_parts, some_both, below_append, low_append, joined_none}
+use Rattle.gds_tree.proofs.BelowLemmas.{some_both, low_append, joined_none}
 use Rattle.gds_tree.proofs.ReplaceLemmas.{replaced}
 use Rattle.gds_tree.proofs.RootLemmas.{same_entries}
-use Rattle.gds_tree.proofs.TreeByLemmas.{leaf_by, by_index}
+use Rattle.gds_tree.proofs.TreeByLemmas.{leaf_by}
 use Rattle.gds_tree.proofs.WidenLemmas.{most_same}
 use Rattle.gds_file.specs.Maps.{has_block, is_busy}
 use Rattle.gds_file.specs.Reshape.{Reshapes}
@@ -36,8 +36,10 @@ use Rattle.gds_file.proofs.TakeLemmas.{take_reshapes}
 use Rattle.gds_file.proofs.UseLemmas.{in_has}
 use Rattle.gds_tryout.specs.Global.{GlobalOf}
 use Rattle.gds_tryout.specs.Split.{SplitsLeaf, KeepsItems, below}
-use Rattle.gds_tryout.proofs.GlobalLemmas.{image_of, whole_image, tree_there, proper_there, busy_there, once_there}
+use Rattle.gds_tryout.proofs.GlobalLemmas.{image_of, whole_image, proper_there, busy_there, once_there, not_free}
 use Rattle.gds_tryout.proofs.LeafLemmas.{all_in}
+use Rattle.gds_tryout.proofs.RootLemmas.{InParts, in_parts, own_count, root_in, leaf_in}
+use Rattle.gds_tryout.proofs.RootLemmas.{counts as root_counts}
 
 same_tree : (o : Option Tree) (x y : Tree) → o ≡ Some x → o ≡ Some y → x ≡ y
 same_tree o x y e f = cc
@@ -66,66 +68,26 @@ module _ (old mid new : List ℕ) (g : GlobalOf old) (free : ℕ) (s : SplitsLea
   i : IsImage old
   i = whole_image old g
 
-  tree_down : sound_tree old 1 root ≡ Some g.tree
-  tree_down =
-      ap (λ n. sound_tree old n root) (sym s.root.level) ∙ tree_there old g
-
   -- the tree in parts: what stands below the entries before, the leaf, and what stands below those behind
-  record InParts : Type 0 where
-    before : Tree
-    behind : Tree
-    first : trees_below old root 0 root.low s.front ≡ Some before
-    last : trees_below old root 0 (Some s.entry.key) s.back ≡ Some behind
-    whole : g.tree ≡ index_tree root
-        (joined before (joined (leaf_tree (below root s.front s.entry) (s.firsts ++ s.next ∷ s.others)) behind))
+  abbrev t : InParts old g s.front s.entry s.back s.root
+  t = in_parts old g s.front s.entry s.back s.root
 
-  in_parts : InParts
-  in_parts =
-      let x = by_index old root 0 g.tree i s.root.there tree_down in
-      let same = same_entries x.es (s.front ++ s.entry ∷ s.back) (entries_of (block_of old root.block))
-      x.has.right.found s.root.right.found in
-      let trees = sym (below_append old root 0 root.low s.front (s.entry ∷ s.back))
-      ∙ ap (trees_below old root 0 root.low) (sym same) ∙ x.trees in
-      let p = both_parts (trees_below old root 0 root.low s.front)
-      (trees_below old root 0 (low_behind root.low s.front) (s.entry ∷ s.back)) x.below trees in
-      let q = both_parts (sound_tree old 0 (below root s.front s.entry))
-      (trees_below old root 0 (Some s.entry.key) s.back) p.second p.later in
-      let is = same_tree (sound_tree old 0 (below root s.front s.entry)) q.first
-      (leaf_tree (below root s.front s.entry) (s.firsts ++ s.next ∷ s.others)) q.here
-      (leaf_by old (below root s.front s.entry) (s.firsts ++ s.next ∷ s.others) i s.leaf) in
-      record {
-        before = p.first;
-        behind = q.second;
-        first = p.here;
-        last = q.later;
-        whole = x.is
-            ∙ ap (index_tree root) (p.is ∙ ap (joined p.first) (q.is ∙ ap (λ t. joined t q.second) is));
-      }
+  whole : g.tree ≡ index_tree root
+      (joined t.before (joined (leaf_tree (below root s.front s.entry) (s.firsts ++ s.next ∷ s.others)) t.behind))
+  whole =
+      t.whole
+      ∙ ap (λ es. index_tree root (joined t.before (joined (leaf_tree (below root s.front s.entry) es) t.behind)))
+      (same_entries t.es (s.firsts ++ s.next ∷ s.others) (entries_of (block_of old leaf)) t.here.right.found
+      s.leaf.right.found)
 
   -- ---- its blocks
 
   counts : (n : ℕ) → count n g.tree.blocks
-      ≡ count n (root.block ∷ []) + (count n in_parts.before.blocks +
-      (count n (leaf ∷ []) + count n in_parts.behind.blocks))
-  counts n =
-      let t = in_parts in
-      omega (
-        arith,
-        ap (λ (w : Tree). count n w.blocks) t.whole,
-        count_append n (root.block ∷ []) (t.before.blocks ++ ((leaf ∷ []) ++ t.behind.blocks)),
-        count_append n t.before.blocks ((leaf ∷ []) ++ t.behind.blocks),
-        count_append n (leaf ∷ []) t.behind.blocks,
-      )
-
-  own_count : (n : ℕ) → 1 ≤ count n (n ∷ [])
-  own_count n = any_counted n (n ∷ []) (or_left (nat_eq n n) false (eq-eqb n n refl))
-
-  not_taken : (n : ℕ) → IsTrue (has_block g.tree.blocks n) → n ≢ free
-  not_taken n there e =
-      both_ways (is_busy old n) (ap (is_busy old) e ∙ s.is_free.free) (busy_there old g n there)
+      ≡ count n (root.block ∷ []) + (count n t.before.blocks + (count n (leaf ∷ []) + count n t.behind.blocks))
+  counts = root_counts old g s.front s.entry s.back s.root
 
   -- another block of the tree stays
-  kept : (n : ℕ) → 1 ≤ count n in_parts.before.blocks + count n in_parts.behind.blocks → block_of new n ≡ block_of old n
+  kept : (n : ℕ) → 1 ≤ count n t.before.blocks + count n t.behind.blocks → block_of new n ≡ block_of old n
   kept n some =
       let there : IsTrue (has_block g.tree.blocks n) = counted_any n g.tree.blocks (omega (arith, counts n, some)) in
       let proper = proper_there old g n there in
@@ -144,11 +106,11 @@ module _ (old mid new : List ℕ) (g : GlobalOf old) (free : ℕ) (s : SplitsLea
         once,
         subst (λ m. 1 ≤ count n (m ∷ [])) e (own_count n),
       ) in
-      s.writes.others n (λ k. ne_eqb n root.block no_root k || (ne_eqb n leaf no_leaf k || (ne_eqb n free (not_taken n
+      s.writes.others n (λ k. ne_eqb n root.block no_root k || (ne_eqb n leaf no_leaf k || (ne_eqb n free (not_free old g n free s.is_free
       there) k || false)))
       ∙ s.takes.others n (λ e. proper.no_map (omega (arith, e)))
 
-  keeps : (xs : List ℕ) → ((n : ℕ) → count n xs ≤ count n in_parts.before.blocks + count n in_parts.behind.blocks)
+  keeps : (xs : List ℕ) → ((n : ℕ) → count n xs ≤ count n t.before.blocks + count n t.behind.blocks)
       → KeepsBlocks old new xs
   keeps xs less =
       All-from_recursion (λ n. block_of new n ≡ block_of old n) xs
@@ -171,22 +133,16 @@ module _ (old mid new : List ℕ) (g : GlobalOf old) (free : ℕ) (s : SplitsLea
   more : (fields_of old).total ≤ (fields_of new).total
   more = omega (arith, ap (λ h. h.total) new_fields, ap (λ h. h.total) s.takes.fields)
 
-  root_there : IsTrue (has_block g.tree.blocks root.block)
-  root_there = counted_any root.block g.tree.blocks (omega (arith, counts root.block, own_count root.block))
-
-  leaf_there : IsTrue (has_block g.tree.blocks leaf)
-  leaf_there = counted_any leaf g.tree.blocks (omega (arith, counts leaf, own_count leaf))
-
   abbrev all : List ℕ
   all = free ∷ g.tree.blocks
 
   among : (n : ℕ) → IsTrue (has_block written n) → IsTrue (has_block all n)
   among n h = elim (or_cases (nat_eq n root.block) (has_block (leaf ∷ free ∷ []) n) h) [
     | inl e ↦ or_right (nat_eq n free) (has_block g.tree.blocks n)
-        (subst (λ m. IsTrue (has_block g.tree.blocks m)) (sym (eqb-true n root.block e)) root_there)
+        (subst (λ m. IsTrue (has_block g.tree.blocks m)) (sym (eqb-true n root.block e)) (root_in old g s.front s.entry s.back s.root))
     | inr more ↦ elim (or_cases (nat_eq n leaf) (has_block (free ∷ []) n) more) [
       | inl e ↦ or_right (nat_eq n free) (has_block g.tree.blocks n)
-          (subst (λ m. IsTrue (has_block g.tree.blocks m)) (sym (eqb-true n leaf e)) leaf_there)
+          (subst (λ m. IsTrue (has_block g.tree.blocks m)) (sym (eqb-true n leaf e)) (leaf_in old g s.front s.entry s.back s.root))
       | inr last ↦ or_left (nat_eq n free) (has_block g.tree.blocks n) (or_end (nat_eq n free) last)
     ]
   ]
@@ -229,7 +185,7 @@ module _ (old mid new : List ℕ) (g : GlobalOf old) (free : ℕ) (s : SplitsLea
       (leaf_tree (visit_below root 0 (Some s.left.key) s.right) (s.next ∷ s.others))
 
   abbrev tree_now : Tree
-  tree_now = index_tree root (around in_parts.before middle in_parts.behind)
+  tree_now = index_tree root (around t.before middle t.behind)
 
   put_trees : trees_below new root 0 (low_behind root.low s.front) (s.left ∷ s.right ∷ []) ≡ Some middle
   put_trees =
@@ -244,7 +200,6 @@ module _ (old mid new : List ℕ) (g : GlobalOf old) (free : ℕ) (s : SplitsLea
 
   sound_now : sound_tree new 1 root ≡ Some tree_now
   sound_now =
-      let t = in_parts in
       replaced old new root 0 s.front (s.entry ∷ []) s.back (s.left ∷ s.right ∷ []) t.before middle t.behind i j sizes
       more (subst (HasEntries old root 1) (sym (append_assoc s.front (s.entry ∷ []) s.back)) s.root) t.first
       (ap (λ low. trees_below old root 0 low s.back) (low_append root.low s.front (s.entry ∷ [])) ∙ t.last)
@@ -254,7 +209,6 @@ module _ (old mid new : List ℕ) (g : GlobalOf old) (free : ℕ) (s : SplitsLea
 
   counts_now : (n : ℕ) → count n tree_now.blocks ≡ count n (free ∷ []) + count n g.tree.blocks
   counts_now n =
-      let t = in_parts in
       let l : ℕ = u32_at s.left.rest 0 in
       let r : ℕ = u32_at s.right.rest 0 in
       omega (
@@ -285,7 +239,7 @@ module _ (old mid new : List ℕ) (g : GlobalOf old) (free : ℕ) (s : SplitsLea
         | inr none ↦ omega (arith, none)
         | inl one ↦
             let same = eqb-true n free (or_end (nat_eq n free) (counted_any n (free ∷ []) (omega (arith, one)))) in
-            absurd (not_taken n (counted_any n g.tree.blocks (omega (arith, some))) same)
+            absurd (not_free old g n free s.is_free (counted_any n g.tree.blocks (omega (arith, some))) same)
       ]
 
   reshaped : Reshapes old new g.tree.blocks tree_now.blocks
@@ -296,10 +250,9 @@ module _ (old mid new : List ℕ) (g : GlobalOf old) (free : ℕ) (s : SplitsLea
 
   items_same : tree_now.items ≡ g.tree.items
   items_same =
-      let t = in_parts in
       ap (λ xs. xs ++ t.behind.items) (ap (λ xs. t.before.items ++ xs) refl)
       ∙ append_assoc t.before.items (s.firsts ++ s.next ∷ s.others) t.behind.items
-      ∙ sym (ap (λ (w : Tree). w.items) t.whole)
+      ∙ sym (ap (λ (w : Tree). w.items) whole)
 
   pub leaf_split : KeepsItems old new g
   leaf_split = record {

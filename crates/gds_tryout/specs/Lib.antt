@@ -3,3 +3,4 @@ pub mod Global
 pub mod Entries
 pub mod Outcome
 pub mod Split
+pub mod Cut

@@ -1,13 +1,17 @@
 //! A leaf right below its global's root goes into two blocks.
-ghost use Rattle.std.specs.Prelude.{◌≡◌, ◌≢◌, ◌<◌, ◌≤◌, ℕ, List};
+ghost use Rattle.std.specs.Prelude.{◌≡◌, ◌≢◌, ◌<◌, ◌≤◌, ◌++◌, ◌∷◌, [], ℕ, List, length};
+ghost use Rattle.gds_block.specs.Fields.{u32_at};
+ghost use Rattle.gds_block.specs.Item.{Item};
 ghost use Rattle.gds_header.specs.Fields.{fields_of};
 ghost use Rattle.gds_file.specs.FileLaws.{IsLawful};
 ghost use Rattle.gds_file.specs.TakeLaws.{IsFree};
 ghost use Rattle.gds_pack.specs.Entry.{items};
 ghost use Rattle.gds_pack.specs.Packable.{ArePackable};
 ghost use Rattle.gds_pack.specs.Packed.{packed_size};
+ghost use Rattle.gds_sound.specs.Sound.{root_of};
+ghost use Rattle.gds_tree.specs.Below.{HasEntries};
 ghost use Rattle.gds_tryout.specs.Global.{GlobalOf};
-ghost use Rattle.gds_tryout.specs.Split.{SplitsLeaf, KeepsItems, PlansSplit, WritesSplit};
+ghost use Rattle.gds_tryout.specs.Split.{SplitsLeaf, KeepsItems, PlansSplit, WritesSplit, below};
 
 use crate::blocks::{block_tn, put_block};
 use crate::taking::take_block;
@@ -19,6 +23,19 @@ use gds_pack::Entry;
 pub fn split_leaf()
     ensures { (old mid new : List ℕ) (global : GlobalOf old) (free : ℕ) → SplitsLeaf old mid new global free
         → KeepsItems old new global }
+{}
+
+/// The entries that a leaf right below its global's root and that root have make a plan: the leaf keeps at least one of
+/// its own, at least one goes into a free block, and the key of the first of these parts the two in the root.
+pub fn plan_of_split()
+    ensures { (file : List ℕ) (global : GlobalOf file) (front : List Item) (entry : Item) (back firsts : List Item)
+        (next : Item) (rest : List Item) (free : ℕ) (pointer : List ℕ)
+        → HasEntries file (root_of global.entry) 1 (front ++ entry ∷ back)
+        → HasEntries file (below (root_of global.entry) front entry) 0 (firsts ++ next ∷ rest) → firsts ≢ []
+        → IsFree file free → length pointer ≡ 4 → u32_at pointer 0 ≡ free
+        → PlansSplit file global (root_of global.entry).block (u32_at entry.rest 0) free
+        (front ++ record { key = next.key; rest = entry.rest } ∷ record { key = entry.key; rest = pointer } ∷ back)
+        firsts (next ∷ rest) }
 {}
 
 /// Writes a split: takes the free block, and writes the entries that leaf, free block and root are to have. Where these
