@@ -137,7 +137,7 @@ pub map_is : (h : Header) (group : ℕ) (out headed new pairs : List ℕ) → ou
 unfolding new_map
 map_is h group out headed new pairs are head is put =
     put_behind_head 255 144 h.block_size 128 144 out headed new pairs are head
-        (ap length is ∙ length-pairs_bytes h group)
+    (ap length is ∙ length-pairs_bytes h group)
     refl put
     ∙ ap (λ xs. head_bytes 255 144 0 ++ xs ++ zeros (h.block_size - 144)) is
 

@@ -1,18 +1,20 @@
 -- What a read leaves of units, and what it gives.
 use Rattle.std.proofs.Common.{◌≡◌, ◌≢◌, ℕ, ◌+◌, ◌≤◌, ◌==◌, Bool, true, false, List, [], ◌∷◌, Result, Ok, Err, length}
 use Rattle.std.proofs.Common.{take, drop, Option, None, Some, sym, ap, subst, ◌∙◌, refl}
-use Rattle.std.proofs.Common.{arith}
-use Rattle.std.specs.Option.{ForSome}
-use Rattle.std.specs.Prelude.{All, OnErr, option_map}
+use Rattle.std.proofs.Common.{arith, Bor}
+use Rattle.std.specs.Option.{ForSome, option_copied}
+use Rattle.std.specs.Prelude.{All, IfSome, OnErr, option_map}
 use Rattle.std.proofs.lemmas.Bool.{cond-false, cond-true, eqb-true}
 use Rattle.std.proofs.lemmas.List.Elements.{All-head, All-tail}
 use Rattle.host_model.specs.Failures.{Failures}
 use Rattle.host_model.specs.Disk.{Stays}
 use Rattle.host_model.specs.Files.{Contents}
-use Rattle.host_model.specs.Units.{IsUnit, unit_bytes}
+use Rattle.host_model.specs.Units.{IsUnit, block_length, unit_bytes}
 use Rattle.gds_header.specs.Fields.{fields_of, file_length_of}
 use Rattle.gds_header.specs.declared.header.Header.{Header}
 use Rattle.gds_images.specs.Group.{Image}
+use Rattle.gds_images.specs.Outcome.{IsWhole}
+use Rattle.gds_law.proofs.UnitLemmas.{block_length-is}
 use Rattle.gds_epoch.specs.Epoch.{database_of}
 use Rattle.gds_epoch.specs.Waiting.{IsRising, LiesWithin, WaitingUnit, patched, place_of, size_of, waiting_bytes}
 use Rattle.gds_epoch.proofs.UnitLemmas.{length-patched}
@@ -51,22 +53,46 @@ none_if : (o : Option Contents) → ((c : Contents) → o ≡ Some c → ⊥) �
 none_if None never = refl
 none_if (Some c) never = absurd (never c refl)
 
--- a waiting unit has its size
-first_length : (size n unit : ℕ) (x : WaitingUnit) (units : List WaitingUnit) (bytes : List ℕ) → LiesWithin size n x
+-- a unit that waits lies where the others do, in its size
+first_lies : (size n unit : ℕ) (x : WaitingUnit) (units : List WaitingUnit) (bytes : List ℕ) → LiesWithin size n x
     → waiting_bytes (x ∷ units) unit ≡ Some bytes → (t : Bool) → (x.unit == unit) ≡ t
-    → (waiting_bytes units unit ≡ Some bytes → length bytes ≡ size_of size unit) → length bytes ≡ size_of size unit
-first_length size n unit x units bytes is found true same others =
-    ap length (sym (some_same x.bytes bytes (sym (cond-true (x.unit == unit) _ _ same) ∙ found))) ∙ is.size
-    ∙ ap (size_of size) (eqb-true x.unit unit same)
-first_length size n unit x units bytes is found false other others =
+    → (waiting_bytes units unit ≡ Some bytes → LiesWithin size n (record { unit = unit; bytes = bytes }))
+    → LiesWithin size n (record { unit = unit; bytes = bytes })
+first_lies size n unit x units bytes is found true same others =
+    let own = some_same x.bytes bytes (sym (cond-true (x.unit == unit) _ _ same) ∙ found) in
+    subst (λ number. LiesWithin size n (record { unit = number; bytes = bytes })) (eqb-true x.unit unit same)
+    (subst (λ own_bytes. LiesWithin size n (record { unit = x.unit; bytes = own_bytes })) own is)
+first_lies size n unit x units bytes is found false other others =
     others (sym (cond-false (x.unit == unit) _ _ other) ∙ found)
 
-waiting_length : (size n unit : ℕ) (units : List WaitingUnit) (bytes : List ℕ) → All (LiesWithin size n) units
-    → waiting_bytes units unit ≡ Some bytes → length bytes ≡ size_of size unit
-waiting_length size n unit [] bytes inside found = absurd (let no : None ≡ Some bytes = found in cc)
-waiting_length size n unit (x ∷ units) bytes inside found =
-    first_length size n unit x units bytes (All-head (LiesWithin size n) x units inside) found (x.unit == unit) refl
-    (waiting_length size n unit units bytes (All-tail (LiesWithin size n) x units inside))
+waiting_lies : (size n unit : ℕ) (units : List WaitingUnit) (bytes : List ℕ) → All (LiesWithin size n) units
+    → waiting_bytes units unit ≡ Some bytes → LiesWithin size n (record { unit = unit; bytes = bytes })
+waiting_lies size n unit [] bytes inside found = absurd (let no : None ≡ Some bytes = found in cc)
+waiting_lies size n unit (x ∷ units) bytes inside found =
+    first_lies size n unit x units bytes (All-head (LiesWithin size n) x units inside) found (x.unit == unit) refl
+    (waiting_lies size n unit units bytes (All-tail (LiesWithin size n) x units inside))
+
+-- It is a unit of the image, of so many bytes.
+pub waiting_asked : (h : Header) (units : List WaitingUnit) (epoch extent : ℕ) (images : List Image)
+    → AreInPlace h epoch extent images units → (told : Option Contents) → ForSome told (IsHeld h extent units)
+    → (unit : ℕ) (bytes : List ℕ) → waiting_bytes units unit ≡ Some bytes
+    → ForSome (option_map database_of (file_with h.block_size units told)) (λ image. IsUnit image unit (length bytes))
+waiting_asked h units epoch extent images places told held unit bytes found image is =
+    let at = told_at h.block_size units told image is in
+    let whole = subst IsWhole at.2 (held at.0 at.1).whole in
+    let fields = image_fields h units extent told held image is in
+    let size : block_length image ≡ h.block_size = block_length-is image ∙ ap (λ (x : Header). x.block_size) fields in
+    let lies = waiting_lies h.block_size (file_length_of h) unit units bytes places.inside found in record {
+      length_is = lies.size ∙ ap (λ k. size_of k unit) (sym size);
+      within = omega (arith, lies.within, ap (λ k. place_of k unit) size, whole.len, ap file_length_of fields);
+    }
+
+-- what is lent is what waits
+pub lent : (P : List ℕ → Type 0) (found : Option (Bor (List ℕ))) (units : List WaitingUnit) (unit : ℕ)
+    → option_copied found ≡ waiting_bytes units unit
+    → ((bytes : List ℕ) → waiting_bytes units unit ≡ Some bytes → P bytes) → IfSome found (λ bytes. P bytes.now)
+lent P None units unit is so = tt
+lent P (Some bytes) units unit is so = so bytes.now (sym is)
 
 -- ---- A unit of the image.
 
@@ -143,6 +169,6 @@ module _ (h : Header) (units : List WaitingUnit) (epoch extent : ℕ) (images : 
   copy_ends before now bytes (Ok value) found err = tt
   copy_ends before now bytes (Err e) found err =
       subst (EndsReading told before now) (sym err.1)
-      (none_if told (λ c tells. err.0 (waiting_length h.block_size
-      (file_length_of h) unit units bytes places.inside found
+      (none_if told (λ c tells. err.0
+      ((waiting_lies h.block_size (file_length_of h) unit units bytes places.inside found).size
       ∙ sym (asked_length c tells))))

@@ -1,4 +1,4 @@
-ghost use Rattle.std.specs.Prelude.{◌≡◌, ◌≢◌, ◌+◌, ◌≤◌, Err, OnErr, OnOk, drop, length, take};
+ghost use Rattle.std.specs.Prelude.{◌≡◌, ◌≢◌, ◌+◌, ◌≤◌, Err, IfSome, OnErr, OnOk, drop, length, take};
 ghost use Rattle.std.specs.Option.{ForSome};
 ghost use Rattle.host_model.specs.Frames.{WasRead};
 ghost use Rattle.host_model.specs.Moments.{LeavesTheSame};
@@ -28,6 +28,14 @@ impl<H: Host> Units<H> {
             Some(bytes) => copy_unit(bytes, unit, out),
             None => read_unit(&mut self.host, self.header.block_size, unit, out),
         }
+    }
+
+    /// Lends the bytes of a unit that changed since the last epoch, which are in memory. `None` says nothing of the unit:
+    /// where it is one of the image, `unit` copies its bytes.
+    pub fn lend(&self, unit: u32) -> Option<&[u8]>
+        ensures { IfSome result (λ bytes. ForSome (image_of self.now) (λ image. bytes.now ≡ unit_bytes image unit)) }
+    {
+        self.waiting.find(unit)
     }
 }
 

@@ -1,0 +1,4 @@
+pub mod PieceLemmas
+pub mod DraftLemmas
+pub mod SameLemmas
+pub mod HeaderLemmas
