@@ -1,7 +1,8 @@
 -- A leaf right below its global's root that is cut: what is known of the entries.
-use Rattle.std.proofs.Common.{refl, ◌≡◌, ◌≢◌, ℕ, ◌+◌, ◌<◌, ◌≤◌, List, [], ◌∷◌, ◌++◌, length, Some, sym, ap, subst, ◌∙◌}
-use Rattle.std.proofs.Common.{◌/◌, arith, take, drop, slice_index_or, length-drop, Option, Vec, Global}
-use Rattle.std.specs.Prelude.{◌^◌, option_map}
+use Rattle.std.proofs.Common.{◌≡◌, ◌≢◌, ℕ, ◌+◌, ◌/◌, ◌<◌, ◌≤◌, List, [], ◌∷◌, ◌++◌, length, take, drop, slice_index_or}
+use Rattle.std.proofs.Common.{length-drop, Option, Some, Vec, Global, refl, sym, ap, subst, ◌∙◌, arith}
+use Rattle.std.specs.Prelude.{◌^◌, ◌↔◌, option_map}
+use Rattle.std.specs.FinMap.{get}
 use Rattle.std.proofs.lemmas.List.{take-append-drop, map-append, length-map, length-take-le}
 use Rattle.gds_block.specs.Block.{IsBlock}
 use Rattle.gds_block.specs.Fields.{u32_at, u32_bytes}
@@ -10,30 +11,27 @@ use Rattle.gds_header.specs.Fields.{fields_of, block_of}
 use Rattle.gds_pack.specs.declared.entry.Entry.{Entry}
 use Rattle.gds_pack.specs.Entry.{item, items}
 use Rattle.gds_pack.specs.Packed.{packed_size}
-use Rattle.gds_pack.proofs.SizeLemmas.{packed_size-front, packed_size-back}
 use Rattle.gds_pack.specs.Unpacked.{entries_of}
-use Rattle.gds_sound.specs.Sound.{root_of}
-use Rattle.std.specs.Prelude.{◌↔◌}
-use Rattle.std.specs.FinMap.{get}
-use Rattle.m_key.specs.Globals.{Globals}
+use Rattle.gds_pack.proofs.SizeLemmas.{packed_size-front, packed_size-back}
 use Rattle.gds_law.proofs.MembershipLemmas.{IsIn}
+use Rattle.gds_sound.specs.Sound.{Tree, root_of}
 use Rattle.gds_sound.specs.Stands.{StandsFor}
-use Rattle.gds_sound.specs.Sound.{Tree}
-use Rattle.gds_file.specs.Change.{items_in, item_at}
-use Rattle.gds_file.proofs.ChangeLemmas.{items_parted}
-use Rattle.gds_file.proofs.ItemLemmas.{items_stood_for, stands_for_items}
-use Rattle.gds_tryout.specs.Global.{GlobalOf}
+use Rattle.m_key.specs.Globals.{Globals}
 use Rattle.gds_tree.specs.Below.{HasEntries}
 use Rattle.gds_tree.proofs.RootLemmas.{same_entries}
+use Rattle.gds_file.specs.Change.{items_in, item_at}
 use Rattle.gds_file.specs.TakeLaws.{IsFree}
+use Rattle.gds_file.proofs.ChangeLemmas.{items_parted}
+use Rattle.gds_file.proofs.ItemLemmas.{items_stood_for, stands_for_items}
 use Rattle.gds_tryout.specs.Cut.{RootOfLeaves, LeadsAt, NoneLeads, parted, CutsLeaf, IsNotBelow, HasFew, SplitBecame}
 use Rattle.gds_tryout.specs.declared.cutting.SplitOutcome.{SplitOutcome}
 use Rattle.gds_tryout.specs.declared.cutting.SplitOutcome.TheVariants.{Done, NotBelow, TooFew, NoRoom}
+use Rattle.gds_tryout.specs.Global.{GlobalOf}
 use Rattle.gds_tryout.specs.Split.{KeepsItems, PlansSplit, below}
 use Rattle.gds_tryout.proofs.EntryLemmas.{items_around, pointer_to, pointer_long}
 use Rattle.gds_tryout.proofs.PlanLemmas.{split_plan}
-use Rattle.gds_tryout.proofs.RootLemmas.{InParts, in_parts, root_has, apart, below_within, below_readable}
-use Rattle.gds_tryout.proofs.RootLemmas.{root_readable}
+use Rattle.gds_tryout.proofs.RootLemmas.{InParts, in_parts, root_has, root_readable, apart, below_within}
+use Rattle.gds_tryout.proofs.RootLemmas.{below_readable}
 use Rattle.gds_tryout.proofs.ValueLemmas.{some_read}
 use Rattle.gds_tryout.proofs.WrittenLemmas.{written_split}
 
@@ -71,8 +69,9 @@ module _ (file : List ℕ) (root leaf free : ℕ) (put firsts others : List Item
 
   pub cut_apart : IsFree file free → (leaf ≢ free) × (leaf ≢ root) × (free ≢ root)
   cut_apart is_free =
+      let top : ℕ = (root_of at.global.entry).block in
       subst (λ n. (leaf ≢ free) × (leaf ≢ n) × (free ≢ n)) at.block
-      (subst (λ n. (n ≢ free) × (n ≢ (root_of at.global.entry).block) × (free ≢ (root_of at.global.entry).block)) c.leads
+      (subst (λ n. (n ≢ free) × (n ≢ top) × (free ≢ top)) c.leads
       (apart file at.global c.front c.entry c.back has_root free is_free))
 
   pub firsts_fit : packed_size firsts ≤ (fields_of file).block_size
@@ -127,7 +126,8 @@ pub few_read : (file : List ℕ) (leaf : ℕ) (es : List Item) → entries_of (b
 few_read file leaf es found few entries is =
     subst (λ xs. length xs < 2) (same_entries es entries (entries_of (block_of file leaf)) found is) few
 
-pub root_read : (file : List ℕ) (root : ℕ) → RootOfLeaves file root → (o : Option (Vec Entry Global)) (v : Vec Entry Global)
+pub root_read : (file : List ℕ) (root : ℕ) → RootOfLeaves file root → (o : Option (Vec Entry Global))
+    (v : Vec Entry Global)
     → (IsBlock (block_of file root) → option_map (λ w. items w.items) o ≡ entries_of (block_of file root))
     → o ≡ Some v → entries_of (block_of file root) ≡ Some (items v.items)
 root_read file root at o v read some =

@@ -1,6 +1,6 @@
 -- What is known of a global of a sound file, and that its tree may change.
-use Rattle.std.proofs.Common.{◌≡◌, ℕ, ◌+◌, ◌≤◌, ◌==◌, List, [], ◌∷◌, ◌++◌, length, Some, refl, sym, ap, subst, ◌∙◌, arith}
-use Rattle.std.proofs.Common.{inl, inr}
+use Rattle.std.proofs.Common.{◌≡◌, ℕ, ◌+◌, ◌≤◌, ◌==◌, List, [], ◌∷◌, ◌++◌, length, Some}
+use Rattle.std.proofs.Common.{refl, sym, ap, subst, ◌∙◌, arith, inl, inr}
 use Rattle.std.specs.Prelude.{◌^◌, ◌≢◌, nat_eq, nat_lt, IsTrue}
 use Rattle.std.proofs.lemmas.Bool.{ltb-false, eqb-false, eq-eqb, or_left, or_parts, both_ways}
 use Rattle.gds_header.specs.declared.kind.HeaderKind.TheVariants.{ShortFile, BadTransactionNumber}

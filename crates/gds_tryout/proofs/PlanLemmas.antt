@@ -1,6 +1,6 @@
 -- The plan of a split of a leaf right below its global's root is lawful.
-use Rattle.std.proofs.Common.{◌≡◌, ℕ, zero, suc, ◌<◌, ◌%◌, List, [], ◌∷◌, ◌++◌, length, Option, None, Some, refl, sym, ap, subst, ◌∙◌}
-use Rattle.std.proofs.Common.{arith}
+use Rattle.std.proofs.Common.{◌≡◌, ℕ, zero, suc, ◌<◌, ◌%◌, List, [], ◌∷◌, ◌++◌, length, Option, None, Some}
+use Rattle.std.proofs.Common.{refl, sym, ap, subst, ◌∙◌, arith}
 use Rattle.std.specs.Prelude.{◌≢◌}
 use Rattle.gds_block.specs.Fields.{u32_at}
 use Rattle.gds_block.specs.Item.{Item}
@@ -88,8 +88,9 @@ module _ (file : List ℕ) (g : GlobalOf file) (front : List Item) (entry : Item
 
   leaf_key : IsLawfulKey h leaf 0 next.key
   leaf_key =
-      (all_right (IsLawfulEntry h leaf 0) firsts (next ∷ rest) (each h leaf 0 (firsts ++ next ∷ rest) lawful_leaf)).0.key
-      key_there
+      let lawful = (all_right (IsLawfulEntry h leaf 0) firsts (next ∷ rest)
+      (each h leaf 0 (firsts ++ next ∷ rest) lawful_leaf)).0 in
+      lawful.key key_there
 
   root_key : IsLawfulKey h root 1 next.key
   root_key = record { short = leaf_key.short; right = leaf_key.right; role = leaf_key.role; above = tt; below = tt }

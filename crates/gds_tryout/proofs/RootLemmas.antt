@@ -1,5 +1,6 @@
 -- A global's root of level 1, and the leaves right below it.
-use Rattle.std.proofs.Common.{◌≡◌, ◌≢◌, ℕ, ◌+◌, ◌<◌, ◌≤◌, false, List, [], ◌∷◌, ◌++◌, Some, refl, sym, ap, subst, ◌∙◌, arith}
+use Rattle.std.proofs.Common.{◌≡◌, ◌≢◌, ℕ, ◌+◌, ◌<◌, ◌≤◌, false, List, [], ◌∷◌, ◌++◌, Some}
+use Rattle.std.proofs.Common.{refl, sym, ap, subst, ◌∙◌, arith}
 use Rattle.std.specs.Prelude.{nat_eq, IsTrue}
 use Rattle.std.proofs.lemmas.Bool.{or_left, eq-eqb}
 use Rattle.gds_block.specs.Block.{level_of, IsBlock}
@@ -126,7 +127,8 @@ module _ (file : List ℕ) (root : ℕ) (at : RootOfLeaves file root) where
       ∙ tree_there file at.global
 
   root_entries : IndexBy file top 0 at.global.tree
-  root_entries = by_index file top 0 at.global.tree (whole_image file at.global) (root_proper file at.global).within sound_top
+  root_entries =
+      by_index file top 0 at.global.tree (whole_image file at.global) (root_proper file at.global).within sound_top
 
   pub root_within : root < (fields_of file).total
   root_within = subst (λ n. n < (fields_of file).total) at.block (root_proper file at.global).within

@@ -106,8 +106,9 @@ module _ (old mid new : List ℕ) (g : GlobalOf old) (free : ℕ) (s : SplitsLea
         once,
         subst (λ m. 1 ≤ count n (m ∷ [])) e (own_count n),
       ) in
-      s.writes.others n (λ k. ne_eqb n root.block no_root k || (ne_eqb n leaf no_leaf k || (ne_eqb n free (not_free old g n free s.is_free
-      there) k || false)))
+      let no_free : n ≢ free = not_free old g n free s.is_free there in
+      s.writes.others n (λ k. ne_eqb n root.block no_root k || (ne_eqb n leaf no_leaf k || (ne_eqb n free no_free k
+      || false)))
       ∙ s.takes.others n (λ e. proper.no_map (omega (arith, e)))
 
   keeps : (xs : List ℕ) → ((n : ℕ) → count n xs ≤ count n t.before.blocks + count n t.behind.blocks)
@@ -139,10 +140,12 @@ module _ (old mid new : List ℕ) (g : GlobalOf old) (free : ℕ) (s : SplitsLea
   among : (n : ℕ) → IsTrue (has_block written n) → IsTrue (has_block all n)
   among n h = elim (or_cases (nat_eq n root.block) (has_block (leaf ∷ free ∷ []) n) h) [
     | inl e ↦ or_right (nat_eq n free) (has_block g.tree.blocks n)
-        (subst (λ m. IsTrue (has_block g.tree.blocks m)) (sym (eqb-true n root.block e)) (root_in old g s.front s.entry s.back s.root))
+        (subst (λ m. IsTrue (has_block g.tree.blocks m)) (sym (eqb-true n root.block e))
+        (root_in old g s.front s.entry s.back s.root))
     | inr more ↦ elim (or_cases (nat_eq n leaf) (has_block (free ∷ []) n) more) [
       | inl e ↦ or_right (nat_eq n free) (has_block g.tree.blocks n)
-          (subst (λ m. IsTrue (has_block g.tree.blocks m)) (sym (eqb-true n leaf e)) (leaf_in old g s.front s.entry s.back s.root))
+          (subst (λ m. IsTrue (has_block g.tree.blocks m)) (sym (eqb-true n leaf e))
+          (leaf_in old g s.front s.entry s.back s.root))
       | inr last ↦ or_left (nat_eq n free) (has_block g.tree.blocks n) (or_end (nat_eq n free) last)
     ]
   ]

@@ -17,7 +17,8 @@ returns c = λ d.
     c.key_from.ensures ∙ c.as_slice.ensures.value
     ∙ ap (λ (x : Entry). x.key.items) (c.index.ensures ∙ get_or_default xs c.args.place _ d c.requires.place) in
     let kept : there.rest.items ≡ old.rest.items =
-    ap (λ (x : Entry). x.rest.items) (c.index_mut.ensures.value ∙ get_or_default xs c.args.place _ d c.requires.place) in
+    ap (λ (x : Entry). x.rest.items)
+    (c.index_mut.ensures.value ∙ get_or_default xs c.args.place _ d c.requires.place) in
     let rest : c.in_ok-pointer.pointer.items ≡ u32_bytes c.args.free =
     c.in_ok-pointer.ensures.items ∙ c.to_le_bytes.ensures ∙ pointer_bytes c.args.free in
     ap items c.in_ok-insert.ensures.items

@@ -19,7 +19,11 @@ read_entries-requires-clause-file c =
 
 pub read_entries-requires-clause-there : goal.read_entries-requires-clause-there
 read_entries-requires-clause-there c =
-    omega (arith, root_within c.args.file.now c.args.root c.requires.root, ap (λ (h : Header). h.total) c.requires.header)
+    omega (
+      arith,
+      root_within c.args.file.now c.args.root c.requires.root,
+      ap (λ (h : Header). h.total) c.requires.header,
+    )
 
 pub returns-in_default-clause-became : goal.returns-in_default-clause-became
 returns-in_default-clause-became c =

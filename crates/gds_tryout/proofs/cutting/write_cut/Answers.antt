@@ -11,7 +11,11 @@ write_split-requires-clause-lawful c = lawful_file c.args.file.now c.requires.ro
 
 pub write_split-requires-clause-root : goal.write_split-requires-clause-root
 write_split-requires-clause-root c =
-    omega (arith, root_within c.args.file.now c.args.root c.requires.root, ap (λ (h : Header). h.total) c.requires.header)
+    omega (
+      arith,
+      root_within c.args.file.now c.args.root c.requires.root,
+      ap (λ (h : Header). h.total) c.requires.header,
+    )
 
 pub write_split-requires-clause-leaf : goal.write_split-requires-clause-leaf
 write_split-requires-clause-leaf c =
