@@ -157,3 +157,21 @@ fn makes_a_database_once(rt: HostRuntime) -> Result<(), Fail> {
     }
     Ok(())
 }
+
+/// Whether a block that changed is lent, with the bytes that it was given, and one that didn't isn't.
+fn lends_changes_alone(alloc: Global) -> Result<bool, AllocError> {
+    let mut units = created(alloc, 0)?;
+    if change(alloc, &mut units, 16, 2, b'a').is_err() {
+        return Ok(false);
+    }
+    let Some(lent) = units.lend(3) else {
+        return Ok(false);
+    };
+    Ok(lent == [b'a'; 512].as_slice() && units.lend(4).is_none())
+}
+
+#[test]
+fn lends_what_changed(rt: HostRuntime) -> Result<(), Fail> {
+    assert_eq!(rt; lends_changes_alone(rt.alloc())?, true);
+    Ok(())
+}
