@@ -116,6 +116,14 @@ impl Waiting {
         self.units.truncate(kept);
     }
 
+    /// The units themselves, in the order of their numbers.
+    pub fn into_units(self) -> Vec<UnitBytes>
+        ensures units { units_of result.items ≡ self.units }
+        ensures rising { IsRising self.units }
+    {
+        self.units
+    }
+
     /// Lets all units go. Their places stay reserved.
     pub fn clear(&mut self)
         ensures empty { self.new.units ≡ [] }

@@ -1,4 +1,4 @@
-ghost use Rattle.std.specs.Prelude.{◌≡◌, ◌≤◌, ◌+◌, None, Some, length, OnErr, OnOk};
+ghost use Rattle.std.specs.Prelude.{◌≡◌, ◌≤◌, ◌+◌, ◌⊎◌, None, Some, length, OnErr, OnOk};
 ghost use Rattle.std.specs.Option.{ForSome};
 ghost use Rattle.host_model.specs.Disk.{Changes, Settles, Torn, Writes, written};
 ghost use Rattle.host_model.specs.Failures.{NeverFell, Rose, counted};
@@ -66,6 +66,10 @@ pub fn store_and_tell<H: Host>(
         done.now))) }
     ensures stable { OnOk result (ForSome (H.told host.old) (λ now. EachLeft H.moment H.left_since host.new (λ c.
         c ≡ saying (with_front FileNo.Db second.now (with_front FileNo.Images first.now now)) done.now))) }
+    ensures calls { H.moment host.new ≤ H.moment host.old + 5 }
+    ensures failures { NeverFell (H.failures host.old) (H.failures host.new) }
+    ensures failed { OnErr result (Rose (H.failures host.old).write (H.failures host.new).write
+        ⊎ Rose (H.failures host.old).say (H.failures host.new).say) }
 {
     store(host, FileNo::Images, 0, first)?;
     store(host, FileNo::Db, 0, second)?;

@@ -30,8 +30,8 @@ impl<H: Host> Units<H> {
         }
     }
 
-    /// Lends the bytes of a unit that changed since the last epoch, which are in memory. `None` says nothing of the unit:
-    /// where it is one of the image, `unit` copies its bytes.
+    /// Lends the bytes of a unit that changed since the last epoch, which are in memory. `None` says nothing of the
+    /// unit: where it is one of the image, `unit` copies its bytes.
     pub fn lend(&self, unit: u32) -> Option<&[u8]>
         ensures { IfSome result (λ bytes. ForSome (image_of self.now) (λ image. bytes.now ≡ unit_bytes image unit)) }
     {
