@@ -1,0 +1,10 @@
+//! An open database that has no fault, by its type, and drafts of what is to be changed in it.
+#![tactic(auto)]
+
+mod base;
+mod error;
+mod reading;
+mod spaces;
+
+pub use base::Base;
+pub use error::BaseError;
