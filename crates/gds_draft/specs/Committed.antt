@@ -27,7 +27,7 @@ CommittedIsStamped =
     (image : List ℕ) (draft : DraftState) (file : List ℕ) → IsDraftOf image draft → draft.header.tn < 2 ^ 63
     → IsCommitted draft image file → IsStamped (drafted draft image) file
 
--- There is one such file.
+-- Two such files are one.
 abbrev pub CommittedIsOne : Type 0
 CommittedIsOne =
     (image : List ℕ) (draft : DraftState) (a b : List ℕ) → IsDraftOf image draft → draft.header.tn < 2 ^ 63
