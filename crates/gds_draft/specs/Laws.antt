@@ -37,8 +37,8 @@ NothingDrafted =
     (image : List ℕ) → All (λ b. b < 256) image → header_faults image ≡ []
     → drafted (record { header = fields_of image; units = [] }) image ≡ image
 
--- What the limits leave open is right too: the transaction number is from 1 to 2^63, and in the master map no group past
--- the last has a free block.
+-- What the limits leave open is right too: the transaction number is from 1 to 2^63, and in the master map no group
+-- past the last has a free block.
 pub record IsFaultless (h : Header) : Type 0 where
   pub from : 1 ≤ h.tn
   pub to : h.tn ≤ 2 ^ 63
