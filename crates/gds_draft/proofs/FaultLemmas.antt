@@ -16,7 +16,7 @@ use Rattle.gds_sound.proofs.HeaderLemmas.{none_of_header, right_header}
 use Rattle.gds_new.proofs.ReservedLemmas.{reserved_none}
 use Rattle.gds_draft.specs.Draft.{DraftState}
 use Rattle.gds_draft.specs.Drafted.{block_with, drafted, file_by}
-use Rattle.gds_draft.specs.Laws.{DraftedHeader, IsDraftOf, IsFaultless, ReadsAsDrafted}
+use Rattle.gds_draft.specs.Laws.{DraftedHeader, IsDraftOf, IsFaultlessHeader, ReadsAsDrafted}
 use Rattle.gds_draft.proofs.DraftLemmas.{drafted_read, master_long}
 
 -- A test that no number of a range passes finds none there, and the other way.
@@ -67,7 +67,7 @@ module _ (image : List ℕ) (draft : DraftState) (is : IsDraftOf image draft) wh
       (sym (reserved_bytes-front 8192 (drafted draft image) (lit≤ tt)) ∙ ap reserved_bytes read.front)
       ∙ reserved_none draft.header (master_long draft.header is.draft_is.reads)
 
-  faultless : IsFaultless draft.header → header_faults (drafted draft image) ≡ []
+  faultless : IsFaultlessHeader draft.header → header_faults (drafted draft image) ≡ []
   faultless right = right_header (drafted draft image) (record {
     long = omega (arith, read.len);
     labelled = labelled draft.header (block_with draft image);
@@ -80,7 +80,7 @@ module _ (image : List ℕ) (draft : DraftState) (is : IsDraftOf image draft) wh
     small = subst (λ (h : Header). h.tn ≤ 2 ^ 63) (sym read.fields) right.to;
   })
 
-  right_still : header_faults (drafted draft image) ≡ [] → IsFaultless draft.header
+  right_still : header_faults (drafted draft image) ≡ [] → IsFaultlessHeader draft.header
   right_still none =
       let held = none_of_header (drafted draft image) none in
       let h : Header = fields_of (drafted draft image) in
@@ -89,7 +89,7 @@ module _ (image : List ℕ) (draft : DraftState) (is : IsDraftOf image draft) wh
       let bits = or_parts (list_any (λ b. not (b == 0)) (reserved_bytes (drafted draft image)))
       (list_any (has_free h) (groups_past h))
       (held ReservedByte (inr (inr (inr (inr (inr (inr (inr (inr (inl refl)))))))))) in
-      subst IsFaultless read.fields (record {
+      subst IsFaultlessHeader read.fields (record {
         from = omega (arith, eqb-false h.tn 0 number.0);
         to = ltb-false (2 ^ 63) h.tn number.1;
         past = past_none h bits.1;

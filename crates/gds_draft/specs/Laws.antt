@@ -39,7 +39,7 @@ NothingDrafted =
 
 -- What the limits leave open is right too: the transaction number is from 1 to 2^63, and in the master map no group
 -- past the last has a free block.
-pub record IsFaultless (h : Header) : Type 0 where
+pub record IsFaultlessHeader (h : Header) : Type 0 where
   pub from : 1 ≤ h.tn
   pub to : h.tn ≤ 2 ^ 63
   pub past : (group : ℕ) → groups_of h ≤ group → group < 2048 → has_free h group ≡ false
@@ -48,4 +48,4 @@ pub record IsFaultless (h : Header) : Type 0 where
 abbrev pub DraftedHeader : Type 0
 DraftedHeader =
     (image : List ℕ) (draft : DraftState) → IsDraftOf image draft
-    → (header_faults (drafted draft image) ≡ []) ↔ IsFaultless draft.header
+    → (header_faults (drafted draft image) ≡ []) ↔ IsFaultlessHeader draft.header
