@@ -5,7 +5,7 @@ use Rattle.std.specs.Prelude.{◌^◌}
 use Rattle.std.specs.List.{AllByRecursion}
 use Rattle.std.proofs.lemmas.List.Elements.{All-from_recursion, recursion_from_All}
 use Rattle.std.proofs.Math.Nat.{suc-mul}
-use Rattle.gds_block.specs.Fields.{u32_bytes}
+use Rattle.gds_block.specs.Fields.{u32_at, u32_bytes}
 use Rattle.gds_block.specs.Item.{Item}
 use Rattle.gds_block.proofs.FieldLemmas.{length-u32_bytes}
 use Rattle.gds_header.specs.Kinds.{IsWithinLimits}
@@ -37,17 +37,20 @@ use Rattle.gds_split.proofs.LawfulLemmas.{AreSome, more_behind, below_left}
 
 -- ---- pointers to pieces
 
-pub small : (h : Header) (n : ℕ) → IsWithinLimits h → IsTreeNumber h.total n → n < 2 ^ 32
+small : (h : Header) (n : ℕ) → IsWithinLimits h → IsTreeNumber h.total n → n < 2 ^ 32
 small h n limits k =
     let a = k.within in
     let b = limits.total_to in
     let c = limits.limit_to in
     omega arith
 
+pub leads : (h : Header) (n : ℕ) → IsWithinLimits h → IsTreeNumber h.total n → u32_at (u32_bytes n) 0 ≡ n
+leads h n limits k = pointer_read n (small h n limits k)
+
 pub pointer_to : (h : Header) (n : ℕ) → IsWithinLimits h → IsTreeNumber h.total n → IsPointer h (u32_bytes n)
 pointer_to h n limits k = record {
   size = length-u32_bytes n;
-  leads = subst (IsTreeNumber h.total) (sym (pointer_read n (small h n limits k))) k;
+  leads = subst (IsTreeNumber h.total) (sym (leads h n limits k)) k;
 }
 
 pub index_rest : (h : Header) (role : TreeRole) (level : ℕ) (rest : List ℕ) → IsPointer h rest

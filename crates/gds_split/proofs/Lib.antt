@@ -5,3 +5,4 @@ pub mod SizeLemmas
 pub mod CountLemmas
 pub mod TreeLemmas
 pub mod RootLemmas
+pub mod WrittenLemmas

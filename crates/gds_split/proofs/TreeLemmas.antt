@@ -16,12 +16,11 @@ use Rattle.gds_tree.specs.Keeps.{IsImage}
 use Rattle.gds_tree.specs.Lawful.{IsTreeNumber, IsLawful}
 use Rattle.gds_tree.proofs.BelowLemmas.{AreBoth, both_parts, some_both, below_append, joined_none}
 use Rattle.gds_tree.proofs.FineLemmas.{some_key}
-use Rattle.gds_tree.proofs.RenumberLemmas.{pointer_read}
 use Rattle.gds_tree.proofs.RootLemmas.{same_below, high_key, front_below}
 use Rattle.gds_tree.proofs.TreeByLemmas.{leaf_by, index_by}
 use Rattle.gds_split.specs.Pieces.{Piece, GoInto, entries_in, numbers_of, starred, entry_to, key_above}
 use Rattle.gds_split.specs.Pieces.{pieces_above, IsVisitBelow, HasPieces, HasPieceTrees}
-use Rattle.gds_split.proofs.AboveLemmas.{small, low_is}
+use Rattle.gds_split.proofs.AboveLemmas.{leads, low_is}
 use Rattle.gds_split.proofs.CountLemmas.{any_order}
 use Rattle.gds_split.proofs.CutLemmas.{IsCut, last_of, starred_last, own_whole, cut}
 use Rattle.gds_split.proofs.LawfulLemmas.{AreSome, more_behind, below_left}
@@ -40,11 +39,6 @@ module _ (image : List ℕ) (i : IsImage image) (v : Visit) where
   abbrev AreNumbered : List Piece → Type 0
   AreNumbered pieces = AllByRecursion (λ (p : Piece). IsTreeNumber (fields_of image).total p.number) pieces
 
-  leads : (p : Piece) (level : ℕ) (low : Option (List ℕ)) (key : List ℕ)
-      → IsTreeNumber (fields_of image).total p.number
-      → (visit_below v level low (entry_to p.number key)).block ≡ p.number
-  leads p level low key number = pointer_read p.number (small (fields_of image) p.number i.limits number)
-
   -- ---- at level 0
 
   leaf_trees : (low : Option (List ℕ)) (pieces : List Piece) (key : List ℕ) → AreNumbered pieces
@@ -60,7 +54,7 @@ module _ (image : List ℕ) (i : IsImage image) (v : Visit) where
       (leaf_tree c p.entries) rest (leaf_by image c p.entries i has.0)
       (leaf_trees (Some k) pieces key numbered.1 has.1)
       ∙ ap (λ n. Some (record { blocks = n ∷ numbers_of pieces; items = p.entries ++ entries_in pieces }))
-      (leads p 0 low k numbered.0)
+      (leads (fields_of image) p.number i.limits numbered.0)
 
   pub leaves : (low : Option (List ℕ)) (es : List Item) (pieces : List Piece) (key : List ℕ)
       → GoInto (fields_of image).total es pieces → HasPieces image v 0 low pieces key
@@ -116,7 +110,7 @@ module _ (image : List ℕ) (i : IsImage image) (v : Visit) where
           sound = some_both (sound_tree image (suc level) c) (Some none) (index_tree c below) none here refl
               ∙ ap (λ t. Some t) (joined_none (index_tree c below));
           items = refl;
-          blocks = λ n. omega (arith, ap (λ m. count n (m ∷ [])) (leads p (suc level) low key number));
+          blocks = λ n. omega (arith, ap (λ m. count n (m ∷ [])) (leads (fields_of image) p.number i.limits number));
         }
 
     more_trees : (w : Visit) (low : Option (List ℕ)) (p q : Piece) (pieces : List Piece) (key : List ℕ)
@@ -146,7 +140,7 @@ module _ (image : List ℕ) (i : IsImage image) (v : Visit) where
             ap (λ (t : Tree). count n t.blocks) x.is,
             count_append n x.first.blocks x.second.blocks,
             rest.blocks n,
-            ap (λ m. count n (m ∷ [])) (leads p (suc level) low k number),
+            ap (λ m. count n (m ∷ [])) (leads (fields_of image) p.number i.limits number),
           );
         }
 

@@ -1,11 +1,13 @@
 -- A block whose entries go into several blocks, and the entries above that lead to them.
-use Rattle.std.specs.Prelude.{◌≡◌, ◌≢◌, ℕ, zero, suc, ◌==◌, List, [], ◌∷◌, ◌++◌, map, flat_map, All, Option, Some}
+use Rattle.std.specs.Prelude.{◌≡◌, ◌≢◌, ℕ, zero, suc, ◌^◌, ◌<◌, ◌≤◌, ◌==◌, List, [], ◌∷◌, ◌++◌, map, flat_map, All}
+use Rattle.std.specs.Prelude.{Option, Some}
 use Rattle.std.specs.List.{count_by}
 use Rattle.gds_block.specs.Fields.{u32_bytes}
 use Rattle.gds_block.specs.Item.{Item}
+use Rattle.gds_header.specs.Fields.{fields_of, block_of}
 use Rattle.gds_header.specs.declared.header.Header.{Header}
 use Rattle.gds_law.specs.Visit.{Visit}
-use Rattle.gds_pack.specs.Packed.{key_behind, first_key}
+use Rattle.gds_pack.specs.Packed.{packed_size, block_bytes, key_behind, first_key}
 use Rattle.gds_sound.specs.Sound.{Tree, sound_tree}
 use Rattle.gds_tree.specs.Below.{as_star, high_below, visit_below, trees_below, HasEntries, index_tree}
 use Rattle.gds_tree.specs.Lawful.{IsTreeNumber, IsLawful}
@@ -84,6 +86,15 @@ AreLawfulPieces h v level low pieces key = EachPiece (λ w es. IsLawful h w leve
 -- The blocks of the pieces are there, with their entries.
 abbrev pub HasPieces : List ℕ → Visit → ℕ → Option (List ℕ) → List Piece → List ℕ → Type 0
 HasPieces image v level low pieces key = EachPiece (λ w es. HasEntries image w level es) v level low pieces key
+
+-- A piece is packed into its block: its entries fit, and the block's transaction number is below the header's.
+pub record IsWritten (image : List ℕ) (level : ℕ) (p : Piece) : Type 0 where
+  pub tn : ℕ
+  pub bytes : block_of image p.number
+      ≡ block_bytes (own_entries level p.entries) level tn (fields_of image).block_size
+  pub fits : packed_size (own_entries level p.entries) ≤ (fields_of image).block_size
+  pub before : tn < (fields_of image).tn
+  pub small : tn < 2 ^ 64
 
 -- Two lists have each number equally often.
 abbrev pub AreInAnyOrder : List ℕ → List ℕ → Type 0

@@ -13,7 +13,7 @@ ghost use Rattle.gds_tree.specs.Keeps.{IsImage, KeepsSizes, KeepsBlocks};
 ghost use Rattle.gds_tree.specs.Lawful.{IsLawful, IsLawfulEntry};
 ghost use Rattle.m_key.specs.Key.{AtMost};
 ghost use Rattle.gds_split.specs.Pieces.{Piece, GoInto, own_entries, pieces_above, numbers_of, IsVisitBelow};
-ghost use Rattle.gds_split.specs.Pieces.{AreLawfulPieces, HasPieces, HasPieceTrees, IsRaised};
+ghost use Rattle.gds_split.specs.Pieces.{AreLawfulPieces, HasPieces, IsWritten, HasPieceTrees, IsRaised};
 
 /// Where the lawful entries of a block go into pieces, they are lawful in each of them: within the bounds that the keys
 /// make which part the pieces, and above level 0 with a star in each.
@@ -21,6 +21,14 @@ pub fn lawful_pieces()
     ensures { (h : Header) (v w : Visit) (level total : ℕ) (low : Option (List ℕ)) (es : List Item)
         (pieces : List Piece) (key : List ℕ) → IsVisitBelow v low key w → IsLawful h w level es
         → GoInto total es pieces → AreLawfulPieces h v level low pieces key }
+{}
+
+/// And where the pieces are packed into their blocks, these are there with their entries.
+pub fn written_pieces()
+    ensures { (image : List ℕ) (v w : Visit) (level : ℕ) (low : Option (List ℕ)) (es : List Item)
+        (pieces : List Piece) (key : List ℕ) → IsImage image → IsVisitBelow v low key w
+        → IsLawful (fields_of image) w level es → GoInto (fields_of image).total es pieces
+        → All (IsWritten image level) pieces → HasPieces image v level low pieces key }
 {}
 
 /// In the block above, the entries that lead to the pieces may stand in the place of the one that led to the whole.

@@ -6,5 +6,5 @@ mod laws;
 
 pub use laws::{
     lawful_pieces, parted_entries, piece_size, pieces_size, pieces_trees, raised_root,
-    replaced_trees,
+    replaced_trees, written_pieces,
 };
