@@ -78,7 +78,7 @@ length-bytes : (h : Header) → length (header_bytes h) ≡ 4096 + (length h.mas
 unfolding header_bytes
 length-bytes h = simp (length-append, length-u32_bytes, length-u64_bytes, length-zeros) (omega arith)
 
-master_long : (h : Header) → fields_of (header_bytes h) ≡ h → length h.master ≡ 256
+pub master_long : (h : Header) → fields_of (header_bytes h) ≡ h → length h.master ≡ 256
 master_long h reads =
     let master = ap (λ (g : Header). length g.master) reads in
     omega (

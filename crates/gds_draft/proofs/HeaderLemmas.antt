@@ -26,7 +26,7 @@ use Rattle.gds_draft.specs.Laws.{NothingDrafted}
 use Rattle.gds_draft.proofs.PieceLemmas.{flat_map_agree, front_and_pieces, piece}
 
 -- bytes none of which is other than 0
-all_zeros : (xs : List ℕ) → list_any (λ b. not (b == 0)) xs ≡ false → xs ≡ zeros (length xs)
+pub all_zeros : (xs : List ℕ) → list_any (λ b. not (b == 0)) xs ≡ false → xs ≡ zeros (length xs)
 unfolding zeros
 all_zeros [] none = refl
 all_zeros (x ∷ xs) none =

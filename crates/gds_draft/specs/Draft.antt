@@ -3,7 +3,7 @@ use Rattle.std.specs.Prelude.{◌≡◌, ◌≤◌, ◌+◌, ℕ, All, List, Opt
 use Rattle.gds_header.specs.Fields.{fields_of, header_bytes}
 use Rattle.gds_header.specs.Kinds.{IsWithinLimits}
 use Rattle.gds_header.specs.declared.header.Header.{Header}
-use Rattle.gds_epoch.specs.Waiting.{WaitingUnit, waiting_bytes}
+use Rattle.gds_epoch.specs.Waiting.{IsRising, WaitingUnit, waiting_bytes, with_unit}
 
 -- its header, and the units that it has of blocks: that of block n has the number n + 1
 pub record DraftState : Type 0 where
@@ -14,14 +14,19 @@ pub record DraftState : Type 0 where
 abbrev pub block_in : DraftState → ℕ → Option (List ℕ)
 block_in draft n = waiting_bytes draft.units (n + 1)
 
+-- with these bytes for a block
+abbrev pub with_block : DraftState → ℕ → List ℕ → DraftState
+with_block draft n bytes = record draft { units = with_unit draft.units (record { unit = n + 1; bytes = bytes }) }
+
 -- A unit is a block of a file with this header.
 pub record IsBlockOf (h : Header) (w : WaitingUnit) : Type 0 where
   pub from : 1 ≤ w.unit
   pub to : w.unit ≤ h.total
   pub size : length w.bytes ≡ h.block_size
 
--- What is always known of a draft: its header is one, and its blocks lie below the total.
+-- What is always known of a draft: its header is one, and its blocks rise in number and lie below the total.
 pub record IsDraft (draft : DraftState) : Type 0 where
   pub limits : IsWithinLimits draft.header
   pub reads : fields_of (header_bytes draft.header) ≡ draft.header
+  pub rising : IsRising draft.units
   pub blocks : All (IsBlockOf draft.header) draft.units

@@ -1,7 +1,8 @@
 -- The image with a draft, by its header and by its blocks.
-use Rattle.std.specs.Prelude.{◌≡◌, ◌<◌, ℕ, List, [], length, All, take}
+use Rattle.std.specs.Prelude.{◌≡◌, ◌↔◌, ◌<◌, ◌≤◌, ◌^◌, ℕ, false, List, [], length, All, take}
 use Rattle.gds_header.specs.Fields.{block_of, fields_of, file_length_of, header_bytes}
-use Rattle.gds_header.specs.Kinds.{IsWithinLimits, header_faults}
+use Rattle.gds_header.specs.Kinds.{IsWithinLimits, groups_of, has_free, header_faults}
+use Rattle.gds_header.specs.declared.header.Header.{Header}
 use Rattle.gds_draft.specs.Draft.{DraftState, IsDraft}
 use Rattle.gds_draft.specs.Drafted.{block_with, drafted}
 
@@ -35,3 +36,16 @@ abbrev pub NothingDrafted : Type 0
 NothingDrafted =
     (image : List ℕ) → All (λ b. b < 256) image → header_faults image ≡ []
     → drafted (record { header = fields_of image; units = [] }) image ≡ image
+
+-- What the limits leave open is right too: the transaction number is from 1 to 2^63, and in the master map no group
+-- past the last has a free block.
+pub record IsFaultlessHeader (h : Header) : Type 0 where
+  pub from : 1 ≤ h.tn
+  pub to : h.tn ≤ 2 ^ 63
+  pub past : (group : ℕ) → groups_of h ≤ group → group < 2048 → has_free h group ≡ false
+
+-- The header of the image with a draft has no fault exactly where that is so of the draft's.
+abbrev pub DraftedHeader : Type 0
+DraftedHeader =
+    (image : List ℕ) (draft : DraftState) → IsDraftOf image draft
+    → (header_faults (drafted draft image) ≡ []) ↔ IsFaultlessHeader draft.header

@@ -1,9 +1,9 @@
-ghost use Rattle.std.specs.Prelude.{◌≡◌, ◌+◌, ◌<◌, ◌≤◌, ◌==◌, [], IfOk, OnOk, OnErr, length};
+ghost use Rattle.std.specs.Prelude.{◌≡◌, ◌<◌, ◌≤◌, ◌==◌, [], OnOk, OnErr, length};
 ghost use Rattle.std.specs.Option.{option_copied};
 ghost use Rattle.gds_header.specs.Fields.{fields_of, header_bytes};
 ghost use Rattle.gds_header.specs.Kinds.{IsWithinLimits};
-ghost use Rattle.gds_epoch.specs.Waiting.{with_unit};
-ghost use Rattle.gds_draft.specs.Draft.{IsDraft, block_in};
+ghost use Rattle.gds_epoch.specs.WaitingView.{units_of};
+ghost use Rattle.gds_draft.specs.Draft.{IsDraft, block_in, with_block};
 
 use gds_epoch::{UnitBytes, Waiting};
 use gds_header::Header;
@@ -37,6 +37,7 @@ impl Draft {
         requires { IsWithinLimits header.now }
         ensures header { result.header ≡ header.now }
         ensures none { result.units ≡ [] }
+        ensures draft { IsDraft result }
     {
         reads_again(*header);
         Draft {
@@ -58,7 +59,8 @@ impl Draft {
         requires limits { IsWithinLimits header.now }
         requires block_size { header.now.block_size ≡ self.old.header.block_size }
         requires total { self.old.header.total ≤ header.now.total }
-        ensures { self.new ≡ record self.old { header = header.now } }
+        ensures put { self.new ≡ record self.old { header = header.now } }
+        ensures draft { IsDraft self.new }
     {
         reads_again(*header);
         self.header = *header;
@@ -86,22 +88,38 @@ impl Draft {
         self.blocks.is_empty()
     }
 
-    /// Gives a block these bytes, or other ones than the draft had.
+    /// Gives a block a copy of these bytes, in place of those that the draft had, if any.
     pub fn put(&mut self, alloc: Global, block: u32, bytes: &[u8]) -> Result<(), AllocError>
         requires within { block < self.old.header.total }
         requires size { length bytes.now ≡ self.old.header.block_size }
-        ensures put { OnOk result (self.new ≡ record self.old {
-          units = with_unit self.old.units (record { unit = block + 1; bytes = bytes.now });
-        }) }
+        ensures put { OnOk result (self.new ≡ with_block self.old block bytes.now) }
         ensures err { OnErr result (self.new ≡ self.old) }
     {
         let bytes = Vec::from_slice(alloc, bytes)?;
+        self.put_vec(block, bytes)
+    }
+
+    /// Gives a block these bytes, as `put` does, without copying them.
+    pub fn put_vec(&mut self, block: u32, bytes: Vec<u8>) -> Result<(), AllocError>
+        requires within { block < self.old.header.total }
+        requires size { length bytes.items ≡ self.old.header.block_size }
+        ensures put { OnOk result (self.new ≡ with_block self.old block bytes.items) }
+        ensures err { OnErr result (self.new ≡ self.old) }
+    {
         self.blocks.reserve(1)?;
         self.blocks.put_reserved(UnitBytes {
             unit: block + 1,
             bytes,
         });
         Ok(())
+    }
+
+    /// The draft's blocks as units of the file, in the order of their numbers.
+    pub fn into_units(self) -> Vec<UnitBytes>
+        ensures units { units_of result.items ≡ self.units }
+        ensures draft { IsDraft self }
+    {
+        self.blocks.into_units()
     }
 }
 

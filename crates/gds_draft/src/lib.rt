@@ -5,4 +5,7 @@ mod draft;
 mod laws;
 
 pub use draft::Draft;
-pub use laws::{drafted_reads, nothing_drafted, same_by_blocks};
+pub use laws::{
+    drafted_header, drafted_reads, header_put, nothing_drafted, put_rewrites, same_by_blocks,
+    stamped_draft,
+};

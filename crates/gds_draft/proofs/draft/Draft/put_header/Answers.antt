@@ -7,6 +7,7 @@ pub invariant_of-self : goal.invariant_of-self
 invariant_of-self c = record {
   limits = c.requires.limits;
   reads = c.reads_again.ensures;
+  rising = c.self.invariant.rising;
   blocks =
       blocks_of_longer c.self.inside.header c.args.header.now c.self.inside.blocks.units
       (c.requires.block_size ∙ ap (λ (draft : DraftState). draft.header.block_size) (sym c.self.view_is))
