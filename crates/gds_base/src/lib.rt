@@ -4,6 +4,7 @@
 mod base;
 mod error;
 mod reading;
+mod groups;
 mod spaces;
 
 pub use base::Base;
