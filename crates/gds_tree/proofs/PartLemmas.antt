@@ -2,26 +2,27 @@
 use Rattle.std.proofs.Common.{◌≡◌, ℕ, zero, suc, ◌<◌, List, [], ◌∷◌, ◌++◌, Option, Some, refl, sym, subst}
 use Rattle.std.specs.List.{AllByRecursion}
 use Rattle.std.proofs.lemmas.List.Elements.{recursion_from_All}
-use Rattle.gds_block.specs.Block.{level_of}
 use Rattle.gds_block.specs.Fields.{u32_at}
 use Rattle.gds_block.specs.Item.{Item}
-use Rattle.gds_header.specs.Fields.{fields_of, block_of}
+use Rattle.gds_header.specs.Fields.{fields_of}
 use Rattle.gds_law.specs.Visit.{TreeRole, directory, global, Visit}
 use Rattle.gds_sound.specs.Sound.{Tree, sound_tree}
-use Rattle.gds_tree.specs.Lawful.{IsTreeNumber, IsLawfulRest, IsLawfulEntry}
+use Rattle.gds_tree.specs.Lawful.{IsTreeNumber, IsLawfulRest, IsLawfulEntry, IsLawful}
 use Rattle.gds_tree.specs.Below.{visit_below, trees_below, HasEntries}
 use Rattle.gds_tree.specs.Keeps.{IsImage}
 use Rattle.gds_tree.proofs.BelowLemmas.{all_both, all_weaker, both_parts}
 use Rattle.gds_tree.proofs.KeepLemmas.{Roots, pointers}
 use Rattle.gds_tree.proofs.TreeByLemmas.{by_leaf, by_index}
 
--- the lawful entries of an index block, by its level
+-- the lawful entries of a block, by its level
+pub lawful_at : (image : List ℕ) (v : Visit) (level : ℕ) (es : List Item) → HasEntries image v level es
+    → IsLawful (fields_of image) v level es
+lawful_at image v level es has = subst (λ n. IsLawful (fields_of image) v n es) has.level has.right.lawful
+
 pub lawful_index : (image : List ℕ) (v : Visit) (level : ℕ) (es : List Item) → HasEntries image v level es
     → AllByRecursion (IsLawfulEntry (fields_of image) v level) es
 lawful_index image v level es has =
-    subst (λ n. AllByRecursion (IsLawfulEntry (fields_of image) v n) es) has.level
-    (recursion_from_All (IsLawfulEntry (fields_of image) v (level_of (block_of image v.block))) es
-    has.right.lawful.each)
+    recursion_from_All (IsLawfulEntry (fields_of image) v level) es (lawful_at image v level es has).each
 
 module _ (image : List ℕ) (i : IsImage image) where
   abbrev Numbered : List ℕ → Type 0

@@ -13,7 +13,7 @@ use Rattle.gds_sound.specs.Sound.{Tree, joined, sound_tree}
 use Rattle.gds_sound.proofs.OrderLemmas.{cmp}
 use Rattle.m_key.specs.Key.{AtMost}
 use Rattle.m_key.specs.KeyEnd.{IsKey}
-use Rattle.gds_tree.specs.Lawful.{IsTreeNumber, IsLawfulEntry}
+use Rattle.gds_tree.specs.Lawful.{IsTreeNumber, IsLawfulEntry, IsLawful}
 use Rattle.gds_tree.specs.Below.{low_behind, trees_below, HasEntries, index_tree}
 use Rattle.gds_tree.specs.Keeps.{IsImage, KeepsSizes, KeepsBlocks, IsLowerLow, IsHigherHigh}
 use Rattle.gds_tree.specs.Around.{around}
@@ -22,9 +22,10 @@ use Rattle.gds_tree.proofs.FineLemmas.{some_key}
 use Rattle.gds_tree.proofs.BelowLemmas.{all_left, all_right, all_weaker, some_both, below_append, low_append}
 use Rattle.gds_tree.proofs.KeepLemmas.{tree_kept, below_kept}
 use Rattle.gds_tree.proofs.KeptTreeLemmas.{low_more, roots_more}
-use Rattle.gds_tree.proofs.PartLemmas.{lawful_index, numbered, below_numbered, rooted, below_rooted}
+use Rattle.gds_tree.proofs.LawfulLemmas.{each}
+use Rattle.gds_tree.proofs.PartLemmas.{lawful_at, numbered, below_numbered, rooted, below_rooted}
 use Rattle.gds_tree.proofs.WidenLemmas.{most_same, widened, below_widened}
-use Rattle.gds_tree.proofs.ItemLemmas.{LowBelow, next_low, first_low, packable}
+use Rattle.gds_tree.proofs.ItemLemmas.{LowBelow, next_low, first_low}
 use Rattle.gds_tree.proofs.TreeByLemmas.{index_by}
 
 -- ---- the trees below entries in an image that keeps their blocks
@@ -113,7 +114,14 @@ abbrev pub NoHigher : List Item → List Item → Type 0
 NoHigher put taken = (put ≡ []) ⊎ AtMost (key_behind [] put) (key_behind [] taken)
 
 module _ (old new : List ℕ) (v : Visit) (level : ℕ) (a taken b put : List Item) (i : IsImage old) (j : IsImage new)
-    (has : HasEntries old v (suc level) (a ++ taken ++ b)) (now : HasEntries new v (suc level) (a ++ put ++ b)) where
+    (was : IsLawful (fields_of old) v (suc level) (a ++ taken ++ b))
+    (now : IsLawful (fields_of new) v (suc level) (a ++ put ++ b)) where
+  old_each : AllByRecursion (IsLawfulEntry (fields_of old) v (suc level)) (a ++ taken ++ b)
+  old_each = each (fields_of old) v (suc level) (a ++ taken ++ b) was
+
+  new_each : AllByRecursion (IsLawfulEntry (fields_of new) v (suc level)) (a ++ put ++ b)
+  new_each = each (fields_of new) v (suc level) (a ++ put ++ b) now
+
   -- the lower bound behind what is put is no higher than behind what was taken
   pub lower_behind : (f : Item) (r : List Item) → b ≡ f ∷ r → NoHigher put taken
       → IsLowerLow (low_behind v.low (a ++ put)) (low_behind v.low (a ++ taken))
@@ -123,17 +131,16 @@ module _ (old new : List ℕ) (v : Visit) (level : ℕ) (a taken b put : List It
       before xs h = subst (AreIndex []) (append_assoc a xs (f ∷ r)) (subst (λ ys. AreIndex [] (a ++ xs ++ ys)) e h)
 
       old_index : AreIndex [] (a ++ (taken ++ f ∷ r))
-      old_index = before taken (packable old i v (suc level) (a ++ taken ++ b) has)
+      old_index = before taken was.packable
 
       new_index : AreIndex [] (a ++ (put ++ f ∷ r))
-      new_index = before put (packable new j v (suc level) (a ++ put ++ b) now)
+      new_index = before put now.packable
 
       old_first : LowBelow v.low (a ++ (taken ++ f ∷ r))
       old_first =
           subst (LowBelow v.low) (append_assoc a taken (f ∷ r))
           (subst (λ ys. LowBelow v.low (a ++ taken ++ ys)) e
-          (first_low old i v level (a ++ taken ++ b) (packable old i v (suc level) (a ++ taken ++ b) has)
-          (lawful_index old v (suc level) (a ++ taken ++ b) has)))
+          (first_low old i v level (a ++ taken ++ b) was.packable old_each))
 
       -- behind what was before
       behind : (xs : List Item) → taken ≡ xs → IsLowerLow (low_behind v.low a) (low_behind (low_behind v.low a) xs)
@@ -185,8 +192,7 @@ module _ (old new : List ℕ) (v : Visit) (level : ℕ) (a taken b put : List It
       grown : trees_below new v level (low_behind v.low (a ++ taken)) b ≡ Some behind
       grown =
           forest_grown old new v level (low_behind v.low (a ++ taken)) b behind i j sizes more
-          (all_right (IsLawfulEntry (fields_of old) v (suc level)) (a ++ taken) b
-          (lawful_index old v (suc level) (a ++ taken ++ b) has)) h kept
+          (all_right (IsLawfulEntry (fields_of old) v (suc level)) (a ++ taken) b old_each) h kept
 
       by : (xs : List Item) → b ≡ xs → trees_below new v level (low_behind v.low (a ++ put)) b ≡ Some behind
       by [] e =
@@ -195,8 +201,24 @@ module _ (old new : List ℕ) (v : Visit) (level : ℕ) (a taken b put : List It
       by (f ∷ r) e =
           below_widened new j v v level (low_behind v.low (a ++ put)) (low_behind v.low (a ++ taken)) b behind
           (widened new j level) refl (high_same v.high) (lower_behind f r e higher)
-          (all_right (IsLawfulEntry (fields_of new) v (suc level)) (a ++ put) b
-          (lawful_index new v (suc level) (a ++ put ++ b) now)) grown
+          (all_right (IsLawfulEntry (fields_of new) v (suc level)) (a ++ put) b new_each) grown
+
+  -- what stands below the entries with the others, also where they have no block yet
+  pub below_replaced : (before middle behind : Tree) → KeepsSizes old new
+      → (fields_of old).total ≤ (fields_of new).total → trees_below old v level v.low a ≡ Some before
+      → trees_below old v level (low_behind v.low (a ++ taken)) b ≡ Some behind
+      → KeepsBlocks old new before.blocks → KeepsBlocks old new behind.blocks
+      → trees_below new v level (low_behind v.low a) put ≡ Some middle → NoHigher put taken
+      → trees_below new v level v.low (a ++ put ++ b) ≡ Some (around before middle behind)
+  below_replaced before middle behind sizes more first last kept kept' put_trees higher =
+      let front = forest_grown old new v level v.low a before i j sizes more
+      (all_left (IsLawfulEntry (fields_of old) v (suc level)) a taken
+      (all_left (IsLawfulEntry (fields_of old) v (suc level)) (a ++ taken) b old_each)) first kept in
+      let back = behind_kept behind sizes more last kept' higher in
+      below_append new v level v.low (a ++ put) b
+      ∙ some_both (trees_below new v level v.low (a ++ put)) _ (joined before middle) behind
+      (below_append new v level v.low a put
+      ∙ some_both (trees_below new v level v.low a) _ before middle front put_trees) back
 
 pub replaced : (old new : List ℕ) (v : Visit) (level : ℕ) (a taken b put : List Item) (before middle behind : Tree)
     → IsImage old → IsImage new → KeepsSizes old new → (fields_of old).total ≤ (fields_of new).total
@@ -207,13 +229,7 @@ pub replaced : (old new : List ℕ) (v : Visit) (level : ℕ) (a taken b put : L
     → sound_tree new (suc level) v ≡ Some (index_tree v (around before middle behind))
 replaced old new v level a taken b put before middle behind i j sizes more has first last kept kept' now put_trees
     higher =
-    let front = forest_grown old new v level v.low a before i j sizes more
-    (all_left (IsLawfulEntry (fields_of old) v (suc level)) a taken
-    (all_left (IsLawfulEntry (fields_of old) v (suc level)) (a ++ taken) b
-    (lawful_index old v (suc level) (a ++ taken ++ b) has))) first kept in
-    let back = behind_kept old new v level a taken b put i j has now behind sizes more last kept' higher in
     index_by new v level (a ++ put ++ b) (around before middle behind) j now
-    (below_append new v level v.low (a ++ put) b
-    ∙ some_both (trees_below new v level v.low (a ++ put)) _ (joined before middle) behind
-    (below_append new v level v.low a put
-    ∙ some_both (trees_below new v level v.low a) _ before middle front put_trees) back)
+    (below_replaced old new v level a taken b put i j (lawful_at old v (suc level) (a ++ taken ++ b) has)
+    (lawful_at new v (suc level) (a ++ put ++ b) now) before middle behind sizes more first last kept kept' put_trees
+    higher)

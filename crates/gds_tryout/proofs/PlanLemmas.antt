@@ -20,6 +20,7 @@ use Rattle.gds_tree.proofs.JoinLemmas.{elsewhere, entry_parted}
 use Rattle.gds_tree.proofs.KeepLemmas.{pointers}
 use Rattle.gds_tree.proofs.LawfulLemmas.{each, leaf_front, leaf_back}
 use Rattle.gds_tree.proofs.ListLemmas.{leaves_right, keys_below, nothing_less}
+use Rattle.gds_tree.proofs.PartLemmas.{lawful_at}
 use Rattle.gds_tree.proofs.RootLemmas.{high_key}
 use Rattle.gds_tree.proofs.TestLemmas.{most_below, less_below}
 use Rattle.gds_file.specs.TakeLaws.{IsFree}
@@ -50,10 +51,6 @@ above_before : (front : List Item) (key : List ℕ) → Below [] key → IsAbove
     → Below (key_behind [] front) key
 above_before [] key some above = some
 above_before (e ∷ front) key some above = subst (λ low. IsAboveLow 1 low key) (low_is e.key front) above
-
-lawful_at : (file : List ℕ) (v : Visit) (level : ℕ) (es : List Item) → HasEntries file v level es
-    → IsLawful (fields_of file) v level es
-lawful_at file v level es has = subst (λ n. IsLawful (fields_of file) v n es) has.level has.right.lawful
 
 -- ---- the plan
 
