@@ -1,5 +1,5 @@
 -- The first group that the master map says has a free block.
-use Rattle.std.proofs.Common.{◌≡◌, ℕ, ◌+◌, ◌*◌, ◌/◌, ◌%◌, ◌<◌, ◌≤◌, Bool, true, false, List, inl, inr, refl, sym, ap, subst}
+use Rattle.std.proofs.Common.{◌≡◌, ℕ, ◌+◌, ◌*◌, ◌/◌, ◌%◌, ◌<◌, Bool, true, false, inl, inr, refl, sym, ap, subst}
 use Rattle.std.proofs.Common.{◌∙◌, arith, w8, Option}
 use Rattle.std.specs.Prelude.{IfNone, IfSome, nat_lt, slice_index}
 use Rattle.std.specs.Bool.{then_some}

@@ -1,5 +1,5 @@
 -- A draft that gets another map of a group, with one pair changed, and a header that fits it.
-use Rattle.std.proofs.Common.{◌≡◌, ◌≢◌, ℕ, ◌+◌, ◌-◌, ◌*◌, ◌/◌, ◌%◌, ◌<◌, ◌||◌, Bool, false, List, [], ◌∷◌, length, sym}
+use Rattle.std.proofs.Common.{◌≡◌, ◌≢◌, ℕ, ◌+◌, ◌-◌, ◌*◌, ◌/◌, ◌%◌, ◌<◌, ◌||◌, Bool, false, List, [], length, sym}
 use Rattle.std.proofs.Common.{◌++◌, ap, drop, subst, take, ◌∙◌, arith}
 use Rattle.std.proofs.lemmas.Bool.{ne_eqb}
 use Rattle.std.proofs.lemmas.List.{take_at}
@@ -12,12 +12,11 @@ use Rattle.gds_header.specs.Kinds.{has_free, header_faults}
 use Rattle.gds_law.specs.Maps.{has_free_place, map_of}
 use Rattle.gds_file.specs.FileLaws.{IsLawful}
 use Rattle.gds_file.specs.Take.{Takes}
-use Rattle.gds_file.specs.TakeLaws.{IsFree}
 use Rattle.gds_file.proofs.MarkLemmas.{Remarks}
 use Rattle.gds_file.proofs.TakeLemmas.{take_stays_lawful}
 use Rattle.gds_draft.specs.Draft.{DraftState, IsDraft, with_block}
 use Rattle.gds_draft.specs.Drafted.{drafted}
-use Rattle.gds_draft.specs.Laws.{IsDraftOf, IsFaultlessHeader}
+use Rattle.gds_draft.specs.Laws.{IsDraftOf}
 use Rattle.gds_draft.specs.PutLaws.{GetsHeader, RewritesBlock}
 use Rattle.gds_draft.proofs.DraftLemmas.{drafted_read}
 use Rattle.gds_draft.proofs.FaultLemmas.{header_drafted}
@@ -131,7 +130,8 @@ module _ (image : List ℕ) (draft : DraftState) (group : ℕ) (map : List ℕ) 
                   free = (less ∙ ap (λ (g : Header). g.free - 1) (sym old_fields)) i;
                   master = (fields_of after).master;
                 });
-            pair = subst (Marks (map_of before (number / 512)) (map_of after (number / 512)) (number % 512)) busy r.pair;
+            pair = subst (Marks (map_of before (number / 512)) (map_of after (number / 512)) (number % 512)) busy
+                r.pair;
             group = subst (λ g. has_free (fields_of after) g ≡ has_free_place after g) (sym quotient) master;
             groups = r.groups;
             others = r.others;

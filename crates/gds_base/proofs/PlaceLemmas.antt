@@ -1,17 +1,16 @@
 -- Free places of groups, in the header, in the maps and as blocks.
-use Rattle.std.proofs.Common.{◌≡◌, ◌≢◌, ℕ, ◌+◌, ◌-◌, ◌*◌, ◌/◌, ◌%◌, ◌<◌, ◌≤◌, Bool, true, false, ◌&&◌, List, inl, inr}
-use Rattle.std.proofs.Common.{◌⊎◌, filter, length, refl, sym, ap, subst, ◌∙◌, arith}
+use Rattle.std.proofs.Common.{◌≡◌, ℕ, ◌+◌, ◌*◌, ◌/◌, ◌%◌, ◌<◌, ◌≤◌, Bool, true, false, ◌&&◌, List, inl, inr}
+use Rattle.std.proofs.Common.{◌⊎◌, filter, length, sym, ap, subst, ◌∙◌, arith}
 use Rattle.std.specs.Prelude.{nat_lt}
 use Rattle.std.specs.List.{range_with_len}
-use Rattle.std.proofs.lemmas.Bool.{and_left, and_parts, and_right, both_ways, cases_Bool, cases_lt, cases_eq, eqb-false}
+use Rattle.std.proofs.lemmas.Bool.{and_left, and_parts, and_right, cases_lt, eqb-false}
 use Rattle.std.proofs.lemmas.Bool.{false≢true, false_from_ne_true, le-ltb, lt-ltb, ltb-true, ne_eqb}
 use Rattle.gds_bitmap.specs.State.{is_free, state_from}
 use Rattle.gds_bitmap.specs.Bitmap.{IsFirstFree, NoneFree, is_free_at, pair_of}
-use Rattle.gds_bitmap.specs.Pairs.{count_below}
 use Rattle.gds_header.specs.declared.header.Header.{Header}
 use Rattle.gds_header.specs.Fields.{fields_of}
-use Rattle.gds_header.specs.Kinds.{groups_of, has_free}
-use Rattle.gds_law.specs.Maps.{free_places, has_free_place, is_present, map_of}
+use Rattle.gds_header.specs.Kinds.{has_free}
+use Rattle.gds_law.specs.Maps.{has_free_place, is_present, map_of}
 use Rattle.gds_file.specs.FileLaws.{IsLawful}
 use Rattle.gds_file.specs.Maps.{IsLawfulMap}
 use Rattle.gds_file.specs.TakeLaws.{IsFree}

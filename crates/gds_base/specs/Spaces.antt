@@ -1,5 +1,5 @@
 -- Blocks that are taken from the free ones and given back, and a file that gets more of them.
-use Rattle.std.specs.Prelude.{◌≡◌, ◌≢◌, ◌*◌, ◌-◌, ◌≤◌, ◌%◌, ◌<◌, ℕ, Bool, true, false, List, IsTrue, min}
+use Rattle.std.specs.Prelude.{◌≡◌, ◌≢◌, ◌*◌, ◌-◌, ◌≤◌, ◌<◌, ℕ, Bool, true, false, List, IsTrue, min}
 use Rattle.gds_bitmap.specs.Bitmap.{is_free_at, IsFirstFree, NoneFree}
 use Rattle.gds_header.specs.declared.header.Header.{Header}
 use Rattle.gds_header.specs.Kinds.{groups_of, has_free}

@@ -4,8 +4,8 @@
 mod base;
 mod calls;
 mod error;
-mod reading;
 mod groups;
+mod reading;
 mod spaces;
 
 pub use base::Base;

@@ -92,7 +92,9 @@ impl<H: Host> Base<H> {
         ensures ends { EndsReading (H.failures self.old.host) (H.failures self.new.host)
             (WithDraft self.old draft.now (λ _. ⊥)) result }
     {
-        Err(BaseError::Memory)
+        let _header = draft.header();
+        let bytes = self.read(draft, 512 * group)?;
+        Ok(Vec::from_slice(alloc, bytes)?)
     }
 }
 
@@ -107,7 +109,7 @@ fn put_map(draft: &mut Draft, header: &Header, group: u32, map: Vec<u8>) -> Resu
     ensures draft { OnOk result (IsDraft draft.new) }
     ensures err { OnErr result (draft.new ≡ draft.old) }
 {
-    draft.header();
+    let _header = draft.header();
     draft.put_vec(512 * group, map)?;
     draft.put_header(header);
     Ok(())

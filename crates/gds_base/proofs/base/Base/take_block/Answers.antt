@@ -49,7 +49,8 @@ returns-clause-drafts g c =
     let hdr : Header = c.header.result.now in
     record {
       read = c.in_ok-group.ensures.read;
-      header = subst (λ (d : DraftState). d.header ≡ record draft.header { free = d.header.free; master = d.header.master })
+      header = subst
+          (λ (d : DraftState). d.header ≡ record draft.header { free = d.header.free; master = d.header.master })
           (sym put) (other_count draft.header hdr h (hdr.free - 1) c.header.ensures.header c.mark_group.ensures.fields);
       more = subst (λ (d : DraftState). length d.units ≤ length draft.units + 1) (sym put) (one_more draft.units _);
     }
