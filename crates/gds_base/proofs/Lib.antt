@@ -1,0 +1,5 @@
+pub mod GroupLemmas
+pub mod PlaceLemmas
+pub mod MapLemmas
+pub mod ReadingLemmas
+pub mod PutLemmas

@@ -2,7 +2,9 @@
 #![tactic(auto)]
 
 mod base;
+mod calls;
 mod error;
+mod groups;
 mod reading;
 mod spaces;
 
