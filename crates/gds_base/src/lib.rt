@@ -4,6 +4,7 @@
 mod base;
 mod calls;
 mod error;
+mod plan;
 mod reading;
 mod spaces;
 
