@@ -16,7 +16,7 @@ use Rattle.gds_tree.proofs.BelowLemmas.{all_right, both_parts, below_append, joi
 use Rattle.gds_tree.proofs.ImageLemmas.{has_children}
 use Rattle.gds_tree.proofs.KeepLemmas.{pointers}
 use Rattle.gds_tree.proofs.PartLemmas.{lawful_index}
-use Rattle.gds_tree.proofs.TreeByLemmas.{IndexBy, by_index}
+use Rattle.gds_tree.proofs.TreeByLemmas.{by_index}
 use Rattle.gds_ancestors.specs.Ancestors.{Ancestor, tree_with, whole_with, steps_to, IsAncestor, AreAncestors}
 use Rattle.gds_ancestors.specs.Ancestors.{HasAncestors}
 

@@ -4,3 +4,4 @@ pub mod KeptLemmas
 pub mod ContentLemmas
 pub mod SpliceLemmas
 pub mod VisitLemmas
+pub mod StarLemmas
