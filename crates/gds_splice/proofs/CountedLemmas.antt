@@ -4,7 +4,7 @@ use Rattle.std.proofs.Common.{subst, ◌∙◌, arith}
 use Rattle.std.specs.Prelude.{nat_eq, IsTrue}
 use Rattle.std.specs.Cmp.{both_ways}
 use Rattle.std.specs.List.{AllByRecursion, IsDistinct}
-use Rattle.std.proofs.lemmas.Bool.{or_left, or_right, or_cases, or_parts, eq-eqb, eqb-true, false_from_ne_true, cases_lt}
+use Rattle.std.proofs.lemmas.Bool.{or_left, or_right, or_cases, or_parts, eq-eqb, eqb-true, eqb-false, ne_eqb, false_from_ne_true, cases_lt}
 use Rattle.gds_sound.proofs.CountLemmas.{count}
 use Rattle.gds_sound.proofs.PathLemmas.{any_counted, counted_any, counts_from_distinct, distinct_from_counts}
 use Rattle.gds_file.specs.Maps.{has_block}
@@ -57,3 +57,14 @@ distinct_more n xs other once = (all_other xs other, once)
     all_other (y ∷ ys) none =
         let parts = or_parts (nat_eq n y) (has_block ys n) none in
         (parts.0, all_other ys parts.1)
+
+-- The one block of a list, and blocks beside one that is another.
+pub same_one : (n x : ℕ) → IsTrue (has_block (x ∷ []) n) → n ≡ x
+same_one n x there = elim (or_cases (nat_eq n x) false there) [ inl e ↦ eqb-true n x e | inr e ↦ absurd (cc) ]
+
+pub others_differ : (x : ℕ) (xs : List ℕ) (n : ℕ) → IsDistinct nat_eq (x ∷ xs) → IsTrue (has_block xs n)
+    → nat_eq n x ≡ false
+unfolding IsDistinct
+others_differ x xs n once there =
+    let other = at_has (λ y. nat_eq x y ≡ false) xs n once.0 there in
+    ne_eqb n x (λ e. eqb-false x n other (sym e))

@@ -3,4 +3,4 @@
 
 mod laws;
 
-pub use laws::taken_blocks;
+pub use laws::{block_stays_one, taken_blocks};
