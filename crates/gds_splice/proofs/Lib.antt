@@ -1,0 +1,5 @@
+pub mod CountedLemmas
+pub mod TakenLemmas
+pub mod ImageLemmas
+pub mod MayLemmas
+pub mod StaysLemmas
