@@ -7,9 +7,13 @@ mod packable;
 mod parting;
 mod parts;
 mod sizes;
+mod taking;
+mod writing;
 
 pub use laws::{block_stays_one, taken_blocks};
 pub use node::{Node, read_node};
 pub use packable::is_packable;
 pub use parting::part;
 pub use parts::{Part, Parts, Step};
+pub use taking::take_blocks;
+pub use writing::put_entries;
