@@ -8,3 +8,5 @@ pub mod RunLemmas
 pub mod WritingLemmas
 pub mod DraftingLemmas
 pub mod TakingLemmas
+pub mod PieceLemmas
+pub mod PutLemmas
