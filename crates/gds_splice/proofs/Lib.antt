@@ -3,3 +3,5 @@ pub mod TakenLemmas
 pub mod ImageLemmas
 pub mod MayLemmas
 pub mod StaysLemmas
+pub mod WritingLemmas
+pub mod PieceLemmas

@@ -3,4 +3,4 @@
 
 mod laws;
 
-pub use laws::{block_stays_one, taken_blocks};
+pub use laws::{block_goes_into_pieces, block_stays_one, pieces_are_there, taken_blocks};
