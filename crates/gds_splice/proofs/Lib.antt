@@ -5,3 +5,4 @@ pub mod MayLemmas
 pub mod StaysLemmas
 pub mod WritingLemmas
 pub mod PieceLemmas
+pub mod AncestorLemmas

@@ -3,4 +3,7 @@
 
 mod laws;
 
-pub use laws::{block_goes_into_pieces, block_stays_one, pieces_are_there, taken_blocks};
+pub use laws::{
+    ancestor_may_part, block_goes_into_pieces, block_stays_one, pieces_are_there, taken_blocks,
+    tree_becomes,
+};
