@@ -6,3 +6,4 @@ pub mod StaysLemmas
 pub mod WritingLemmas
 pub mod PieceLemmas
 pub mod AncestorLemmas
+pub mod RaisedLemmas

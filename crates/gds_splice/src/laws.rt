@@ -1,5 +1,5 @@
 ghost use Rattle.gds_splice.specs.PartLaws.{AllAreTaken, AncestorBecomes, AncestorMayPart, BecomesBehind};
-ghost use Rattle.gds_splice.specs.PartLaws.{GoesIntoPieces, PartedHasRoom, PiecesAreThere, StaysOne};
+ghost use Rattle.gds_splice.specs.PartLaws.{GoesIntoPieces, PartedHasRoom, PiecesAreThere, RootIsRaised, StaysOne};
 
 /// Free blocks that are taken one after another: they are distinct and busy then, and the file stays lawful.
 pub fn taken_blocks()
@@ -28,6 +28,12 @@ pub fn ancestor_may_part()
     ensures may { AncestorMayPart }
     ensures becomes { AncestorBecomes }
     ensures room { PartedHasRoom }
+{}
+
+/// Where a root goes into pieces, all of them in free blocks, and gets the entries that lead to them, its tree is sound
+/// and one level higher.
+pub fn root_is_raised()
+    ensures { RootIsRaised }
 {}
 
 /// A tree that comes of a change of blocks comes of the change before it and that one.
