@@ -7,3 +7,4 @@ pub mod WritingLemmas
 pub mod PieceLemmas
 pub mod AncestorLemmas
 pub mod RaisedLemmas
+pub mod LeafLemmas

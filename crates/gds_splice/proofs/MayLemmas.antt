@@ -61,7 +61,8 @@ module _ (file : List ℕ) (root : Visit) (above : List Ancestor) (v : Visit) (l
 kept_by : (old new xs : List ℕ) → ((n : ℕ) → IsTrue (has_block xs n) → block_of new n ≡ block_of old n)
     → KeepsBlocks old new xs
 kept_by old new xs same =
-    All-from_recursion (λ n. block_of new n ≡ block_of old n) xs (all_has (λ n. block_of new n ≡ block_of old n) xs same)
+    All-from_recursion (λ n. block_of new n ≡ block_of old n) xs
+    (all_has (λ n. block_of new n ≡ block_of old n) xs same)
 
 pub record Stays (file : List ℕ) (root : Visit) (above : List Ancestor) (v : Visit) (level : ℕ) (es : List Item)
     (below : Tree) : Type 0 where

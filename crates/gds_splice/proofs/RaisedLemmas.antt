@@ -1,5 +1,5 @@
 -- A root that goes into pieces, all of which take free blocks.
-use Rattle.std.proofs.Common.{◌≡◌, ℕ, suc, ◌%◌, ◌≢◌, ◌||◌, false, List, [], ◌∷◌, ◌++◌}
+use Rattle.std.proofs.Common.{◌≡◌, ℕ, suc, ◌%◌, ◌<◌, ◌≢◌, ◌||◌, false, List, [], ◌∷◌, ◌++◌, None}
 use Rattle.std.proofs.Common.{refl, sym, ap, subst, ◌∙◌, arith}
 use Rattle.std.specs.Prelude.{nat_eq, IsTrue, All}
 use Rattle.std.specs.List.{AllByRecursion}
@@ -14,6 +14,8 @@ use Rattle.gds_sound.specs.Sound.{Tree}
 use Rattle.gds_sound.proofs.CountLemmas.{count_append}
 use Rattle.gds_tree.specs.Below.{HasEntries, index_tree}
 use Rattle.gds_tree.specs.Lawful.{IsTreeNumber}
+use Rattle.gds_tree.specs.RightBlock.{IsDueLevel}
+use Rattle.gds_tree.proofs.FaultlessLemmas.{written_entries}
 use Rattle.gds_file.specs.FileLaws.{IsLawful}
 use Rattle.gds_file.specs.Maps.{has_block}
 use Rattle.gds_file.specs.Reshape.{Reshapes}
@@ -22,10 +24,10 @@ use Rattle.gds_file.proofs.ReshapeLemmas.{has_append, reshapes_compose}
 use Rattle.gds_file.proofs.RewriteLemmas.{rewrite_is_reshape, rewrite_keeps_header, rewrite_stays_lawful}
 use Rattle.gds_split.specs.Pieces.{GoInto, IsRaised, IsWritten, Piece, numbers_of, own_entries, pieces_above}
 use Rattle.gds_split.proofs.CountLemmas.{counts}
-use Rattle.gds_split.proofs.RootLemmas.{raised_sound}
+use Rattle.gds_split.proofs.RootLemmas.{raised_lawful, raised_sound}
 use Rattle.gds_split.proofs.WrittenLemmas.{pieces_there}
-use Rattle.gds_splice.specs.Parted.{MayPart, TreeBecomes, WritesPieces, items_around, part_blocks}
-use Rattle.gds_splice.specs.PartLaws.{RootIsRaised}
+use Rattle.gds_splice.specs.Parted.{IsPackedAt, MayPart, TreeBecomes, WritesPieces, items_around, part_blocks}
+use Rattle.gds_splice.specs.PartLaws.{RaisedRootIsThere, RootIsRaised}
 use Rattle.gds_splice.proofs.CountedLemmas.{at_has, others_differ, same_one}
 use Rattle.gds_splice.proofs.ImageLemmas.{image_of}
 use Rattle.gds_splice.proofs.MayLemmas.{Stays, part_numbered, stays}
@@ -123,8 +125,8 @@ module _ (before mid after : List ℕ) (root v : Visit) (level : ℕ) (es : List
 
   kept : Stays after root [] v (suc level) es below
   kept =
-      stays before after (image_of before m.maps) (image_of after lawful) reshapes.limits root [] v (suc level) es below m
-      same
+      stays before after (image_of before m.maps) (image_of after lawful) reshapes.limits root [] v (suc level) es below
+      m same
 
   go : GoInto (fields_of after).total es pieces
   go = go_grown (fields_of before).total (fields_of after).total es pieces reshapes.limits.total g
@@ -134,6 +136,17 @@ module _ (before mid after : List ℕ) (root v : Visit) (level : ℕ) (es : List
       All-from_recursion (IsWritten after (suc level)) pieces
       (written_on mid after (suc level) v.block pieces r apart
       (recursion_from_All (IsWritten mid (suc level)) pieces w.each))
+
+  -- the root has the entries that are packed in it
+  pub root_there : suc level < 7 → IsPackedAt after v.block (suc (suc level)) (pieces_above (suc level) pieces [])
+      → HasEntries after v (suc (suc level)) (pieces_above (suc level) pieces [])
+  root_there low p =
+      let j = image_of after lawful in
+      let none : v.level ≡ None = ap (λ (u : Visit). u.level) m.lead ∙ m.is_root.level in
+      written_entries after v (suc (suc level)) p.tn (pieces_above (suc level) pieces []) j
+      (omega (arith, numbered.0.within, reshapes.limits.total)) p.bytes
+      (raised_lawful (fields_of after) v (suc level) es pieces j.limits kept.lawful go) p.fits
+      (subst (λ due. IsDueLevel due (suc (suc level))) (sym none) (omega arith, omega (arith, low))) p.past p.small
 
   module _ (has : HasEntries after v (suc (suc level)) (pieces_above (suc level) pieces [])) where
     raised : IsRaised after v (suc level) pieces below
@@ -160,3 +173,7 @@ module _ (before mid after : List ℕ) (root v : Visit) (level : ℕ) (es : List
 pub root_is_raised : RootIsRaised
 root_is_raised before mid after root v level es below pieces m g w r has =
     root_becomes before mid after root v level es below pieces m g w r has
+
+pub raised_root_is_there : RaisedRootIsThere
+raised_root_is_there before mid after root v level es below pieces m g w r low p =
+    root_there before mid after root v level es below pieces m g w r low p

@@ -1,13 +1,13 @@
 -- A block of a tree with other entries, and what comes of it: it stays one block, or goes into pieces before the index
 -- block above it tells of them.
-use Rattle.std.specs.Prelude.{◌≡◌, ◌≢◌, ℕ, zero, suc, ◌+◌, ◌*◌, ◌-◌, ◌%◌, ◌≤◌, nat_eq, IsTrue, false, All, List, []}
-use Rattle.std.specs.Prelude.{◌∷◌, ◌++◌, length, None, Some}
+use Rattle.std.specs.Prelude.{◌≡◌, ◌≢◌, ℕ, zero, suc, ◌+◌, ◌*◌, ◌^◌, ◌-◌, ◌%◌, ◌<◌, ◌≤◌, nat_eq, IsTrue, false, All}
+use Rattle.std.specs.Prelude.{List, [], ◌∷◌, ◌++◌, length, None, Some}
 use Rattle.std.specs.List.{IsDistinct}
 use Rattle.gds_block.specs.Item.{Item}
 use Rattle.gds_header.specs.Fields.{fields_of, block_of}
 use Rattle.gds_header.specs.declared.header.Header.{Header}
 use Rattle.gds_law.specs.Visit.{Visit}
-use Rattle.gds_pack.specs.Packed.{packed_size}
+use Rattle.gds_pack.specs.Packed.{block_bytes, packed_size}
 use Rattle.gds_sound.specs.Sound.{Tree}
 use Rattle.gds_tree.specs.Below.{low_behind, trees_below}
 use Rattle.gds_tree.specs.Lawful.{IsTreeNumber}
@@ -19,7 +19,7 @@ use Rattle.gds_file.specs.Reshape.{Reshapes}
 use Rattle.gds_file.specs.Rewrite.{Rewrites, AreAllBusy}
 use Rattle.gds_file.specs.Take.{Takes}
 use Rattle.gds_file.specs.TakeLaws.{IsFree}
-use Rattle.gds_split.specs.Pieces.{Piece, GoInto, IsWritten, HasPieceTrees, numbers_of}
+use Rattle.gds_split.specs.Pieces.{AreInAnyOrder, Piece, GoInto, IsWritten, HasPieceTrees, numbers_of}
 use Rattle.gds_ancestors.specs.Ancestors.{Ancestor, AreAncestors, items_before, items_behind, outer_blocks}
 
 -- ---- a tree that changes
@@ -64,6 +64,21 @@ pub record MayPart (file : List ℕ) (root : Visit) (above : List Ancestor) (v :
   pub distinct : IsDistinct nat_eq (part_blocks above v below)
   pub busy : AreAllBusy file (part_blocks above v below)
   pub maps : IsLawful file
+
+-- The entries themselves are the items of a level-0 block, and its tree has no other blocks than that one and the outer
+-- ones.
+pub record LeafParts (file : List ℕ) (root : Visit) (above : List Ancestor) (v : Visit) (es : List Item)
+    (blocks : List ℕ) : Type 0 where
+  pub may : MayPart file root above v 0 es (record { blocks = []; items = es })
+  pub order : AreInAnyOrder (part_blocks above v (record { blocks = []; items = es })) blocks
+
+-- A block has these entries, packed, and a transaction number of the past.
+pub record IsPackedAt (file : List ℕ) (n level : ℕ) (es : List Item) : Type 0 where
+  pub tn : ℕ
+  pub bytes : block_of file n ≡ block_bytes es level tn (fields_of file).block_size
+  pub fits : packed_size es ≤ (fields_of file).block_size
+  pub past : tn < (fields_of file).tn
+  pub small : tn < 2 ^ 64
 
 -- ---- free blocks
 

@@ -4,6 +4,6 @@
 mod laws;
 
 pub use laws::{
-    ancestor_may_part, block_goes_into_pieces, block_stays_one, pieces_are_there, root_is_raised,
-    taken_blocks, tree_becomes,
+    ancestor_may_part, block_goes_into_pieces, block_stays_one, leaf_may_part, pieces_are_there,
+    root_is_raised, taken_blocks, tree_becomes,
 };
