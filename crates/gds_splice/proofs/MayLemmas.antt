@@ -11,7 +11,7 @@ use Rattle.gds_law.specs.Visit.{Visit}
 use Rattle.gds_sound.specs.Sound.{Tree, sound_tree}
 use Rattle.gds_tree.specs.Below.{HasEntries, index_tree}
 use Rattle.gds_tree.specs.Keeps.{IsImage, KeepsBlocks}
-use Rattle.gds_tree.specs.Lawful.{IsTreeNumber, IsLawfulEntry}
+use Rattle.gds_tree.specs.Lawful.{IsTreeNumber}
 use Rattle.gds_tree.specs.Lawful as entries
 use Rattle.gds_tree.proofs.BelowLemmas.{all_both}
 use Rattle.gds_tree.proofs.KeepLemmas.{lawful_kept, same_limits}

@@ -112,9 +112,9 @@ pub record WritesPieces (before after : List ℕ) (fresh : List ℕ) (level : �
   pub rewrites : Rewrites mid after (numbers_of pieces)
   pub each : All (IsWritten after level) pieces
 
--- The child of an index block has gone into pieces: they have entries that are lawful at its visit, and sound trees stand
--- below the entries that lead to them, with the items that stood below the child. The index block doesn't tell of them
--- yet and leads to the child as ever. No block of the tree with the pieces is there twice, and all are busy.
+-- The child of an index block has gone into pieces: they have entries that are lawful at its visit, and sound trees
+-- stand below the entries that lead to them, with the items that stood below the child. The index block doesn't tell of
+-- them yet and leads to the child as ever. No block of the tree with the pieces is there twice, and all are busy.
 pub record IsParted (file : List ℕ) (root : Visit) (a : Ancestor) (above : List Ancestor) (child : Visit) (level : ℕ)
     (pieces : List Piece) (below : Tree) : Type 0 where
   pub is_root : IsRoot file root
