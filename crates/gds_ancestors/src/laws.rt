@@ -63,9 +63,9 @@ pub fn whole_content()
         ↔ IsDistinct nat_eq (outer_blocks above ++ inner.blocks) }
 {}
 
-/// What stands below entries one after another, in three parts. Where the second of them takes the place of other
-/// entries, whose last key isn't below its own, what stood below the third stands there still, within a wider bound. The
-/// block with these entries has a sound tree.
+/// What stands below entries one after another, in three parts. Where the second part takes the place of entries whose
+/// last key isn't below the last of its own, what stood below the third stands there still, within a wider bound. So
+/// the block with all of them has a sound tree.
 pub fn spliced_block()
     ensures parts { (image : List ℕ) (v : Visit) (level : ℕ) (low : Option (List ℕ)) (a put b : List Item)
         (before middle behind : Tree) → trees_below image v level low a ≡ Some before
