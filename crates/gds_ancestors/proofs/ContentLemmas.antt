@@ -62,7 +62,8 @@ whole_has above inner n =
 
 eq_flips : (x y : ℕ) → nat_eq x y ≡ nat_eq y x
 eq_flips x y =
-    both_ways (nat_eq x y) (nat_eq y x) (λ e. eq-eqb y x (sym (eqb-true x y e))) (λ e. eq-eqb x y (sym (eqb-true y x e)))
+    both_ways (nat_eq x y) (nat_eq y x) (λ e. eq-eqb y x (sym (eqb-true x y e)))
+    (λ e. eq-eqb x y (sym (eqb-true y x e)))
 
 pub whole_distinct : (above : List Ancestor) (inner : Tree)
     → IsDistinct nat_eq (whole_with above inner).blocks ↔ IsDistinct nat_eq (outer_blocks above ++ inner.blocks)

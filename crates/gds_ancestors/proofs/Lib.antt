@@ -5,3 +5,4 @@ pub mod ContentLemmas
 pub mod SpliceLemmas
 pub mod VisitLemmas
 pub mod StarLemmas
+pub mod StepLemmas

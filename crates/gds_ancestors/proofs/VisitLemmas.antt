@@ -1,17 +1,14 @@
 -- What a visit has from its ancestors.
-use Rattle.std.proofs.Common.{◌≡◌, ℕ, suc, List, [], ◌∷◌, ◌++◌, length, Some, refl, sym, ap, subst, ◌∙◌, arith}
+use Rattle.std.proofs.Common.{◌≡◌, ℕ, suc, List, [], ◌∷◌, ◌++◌, Some, sym, ap, subst, ◌∙◌}
 use Rattle.std.specs.List.{AllByRecursion}
-use Rattle.std.proofs.lemmas.List.{length-append}
 use Rattle.gds_header.specs.Fields.{fields_of}
 use Rattle.gds_law.specs.Visit.{Visit}
-use Rattle.gds_law.specs.Path.{Steps}
-use Rattle.gds_pack.specs.Packed.{packed_size}
 use Rattle.gds_tree.specs.Lawful.{IsTreeNumber, IsLawfulEntry}
 use Rattle.gds_tree.specs.Keeps.{IsImage}
 use Rattle.gds_tree.proofs.BelowLemmas.{all_left, all_right, all_both}
 use Rattle.gds_tree.proofs.KeepLemmas.{pointers}
 use Rattle.gds_tree.proofs.PartLemmas.{lawful_index, numbered, below_numbered}
-use Rattle.gds_ancestors.specs.Ancestors.{Ancestor, steps_to, outer_blocks, IsAncestor, AreAncestors}
+use Rattle.gds_ancestors.specs.Ancestors.{Ancestor, outer_blocks, IsAncestor, AreAncestors}
 
 pub same_role : (image : List ℕ) (root w : Visit) (above : List Ancestor) (level : ℕ)
     → AreAncestors image root above w level → w.role ≡ root.role
@@ -29,7 +26,7 @@ module _ (image : List ℕ) where
   abbrev Numbered : List ℕ → Type 0
   Numbered blocks = AllByRecursion (IsTreeNumber (fields_of image).total) blocks
 
-  number_below : (a : Ancestor) (w : Visit) (level : ℕ) → IsAncestor image a w level
+  pub number_below : (a : Ancestor) (w : Visit) (level : ℕ) → IsAncestor image a w level
       → IsTreeNumber (fields_of image).total w.block
   number_below a w level k =
       let lawful = lawful_index image a.visit (suc level) (a.front ++ a.entry ∷ a.back) k.has in
@@ -67,11 +64,3 @@ module _ (image : List ℕ) where
             (all_both number a.left.blocks a.right.blocks beside.0 beside.1)
             (outer_numbered i root a.visit above (suc level) n lead.1),
       )
-
--- ---- steps
-
-pub step_count : (above : List Ancestor) → length (steps_to above) ≡ length above
-step_count [] = refl
-step_count (a ∷ above) =
-    let last : Steps = (a.visit.block, packed_size a.front) ∷ [] in
-    omega (arith, length-append (steps_to above) last, step_count above)

@@ -7,7 +7,7 @@ ghost use Rattle.gds_header.specs.declared.header.Header.{Header};
 ghost use Rattle.gds_header.specs.Fields.{fields_of};
 ghost use Rattle.gds_law.specs.Visit.{Visit};
 ghost use Rattle.gds_law.specs.Path.{Steps, visit_from};
-ghost use Rattle.gds_pack.specs.Packed.{key_behind};
+ghost use Rattle.gds_pack.specs.Packed.{key_behind, packed_size};
 ghost use Rattle.gds_sound.specs.Sound.{Tree, sound_tree};
 ghost use Rattle.m_key.specs.Key.{AtMost};
 ghost use Rattle.gds_tree.specs.Around.{around};
@@ -22,6 +22,16 @@ pub fn ancestors_of_path()
     ensures { (image : List ℕ) (root w : Visit) (path : Steps) (level : ℕ) (t : Tree) → IsImage image
         → root.block < (fields_of image).total → visit_from image root path ≡ Some w
         → sound_tree image (length path + level) root ≡ Some t → HasAncestors image root path w level t }
+{}
+
+/// And back: the steps of ancestors lead from the root to the visit below them. In a block an offset belongs to one
+/// entry.
+pub fn steps_of_ancestors()
+    ensures lead { (image : List ℕ) (root w : Visit) (above : List Ancestor) (level : ℕ) → IsImage image
+        → AreAncestors image root above w level → visit_from image root (steps_to above) ≡ Some w }
+    ensures count { (above : List Ancestor) → length (steps_to above) ≡ length above }
+    ensures entry { (a : List Item) (e : Item) (b c : List Item) (f : Item) (d : List Item)
+        → a ++ e ∷ b ≡ c ++ f ∷ d → packed_size a ≡ packed_size c → (a ≡ c) × (e ≡ f) × (b ≡ d) }
 {}
 
 /// Over a sound tree the ancestors make the root's tree sound, with that tree in its place.
@@ -53,9 +63,9 @@ pub fn whole_content()
         ↔ IsDistinct nat_eq (outer_blocks above ++ inner.blocks) }
 {}
 
-/// What stands below entries one after another, in three parts. Where the second of them takes the place of other
-/// entries, whose last key isn't below its own, what stood below the third stands there still, within a wider bound. The
-/// block with these entries has a sound tree.
+/// What stands below entries one after another, in three parts. Where the second part takes the place of entries whose
+/// last key isn't below the last of its own, what stood below the third stands there still, within a wider bound. So
+/// the block with all of them has a sound tree.
 pub fn spliced_block()
     ensures parts { (image : List ℕ) (v : Visit) (level : ℕ) (low : Option (List ℕ)) (a put b : List Item)
         (before middle behind : Tree) → trees_below image v level low a ≡ Some before
@@ -92,8 +102,7 @@ pub fn starred_entry()
 {}
 
 /// A visit below ancestors is of the root's role, and where there are some, its level is due. Where the root's number
-/// may be that of a tree's block, so may its own and those of the blocks above it and beside. There are as many steps as
-/// ancestors.
+/// may be that of a tree's block, so may its own and those of the blocks above it and beside.
 pub fn visit_of_ancestors()
     ensures role { (image : List ℕ) (root w : Visit) (above : List Ancestor) (level : ℕ)
         → AreAncestors image root above w level → w.role ≡ root.role }
@@ -105,5 +114,4 @@ pub fn visit_of_ancestors()
     ensures outer { (image : List ℕ) (root w : Visit) (above : List Ancestor) (level : ℕ) → IsImage image
         → IsTreeNumber (fields_of image).total root.block → AreAncestors image root above w level
         → All (IsTreeNumber (fields_of image).total) (outer_blocks above) }
-    ensures steps { (above : List Ancestor) → length (steps_to above) ≡ length above }
 {}

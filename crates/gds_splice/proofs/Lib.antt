@@ -3,10 +3,15 @@ pub mod TakenLemmas
 pub mod ImageLemmas
 pub mod MayLemmas
 pub mod StaysLemmas
+pub mod WritingLemmas
+pub mod PieceLemmas
+pub mod AncestorLemmas
+pub mod RaisedLemmas
+pub mod LeafLemmas
 pub mod PackableLemmas
 pub mod RunLemmas
-pub mod WritingLemmas
+pub mod EntriesPutLemmas
 pub mod DraftingLemmas
 pub mod TakingLemmas
-pub mod PieceLemmas
+pub mod CuttingLemmas
 pub mod PutLemmas

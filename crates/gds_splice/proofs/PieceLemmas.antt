@@ -1,170 +1,160 @@
--- Entries that go into pieces: the key that parts them, and the entries of each.
-use Rattle.std.proofs.Common.{◌≡◌, ◌≢◌, ◌≤◌, ◌<◌, ◌+◌, ℕ, zero, suc, List, [], ◌∷◌, ◌++◌, length, take, drop, refl, sym, ap, ◌∙◌}
-use Rattle.std.proofs.Common.{arith, subst, append_assoc, slice_index_or, slice_set}
+-- A block of a tree that goes into pieces, of which the first keeps its number.
+use Rattle.std.proofs.Common.{◌≡◌, ℕ, zero, suc, ◌||◌, List, ◌∷◌, ◌++◌, Option}
+use Rattle.std.proofs.Common.{refl, sym, ap, ◌∙◌, arith}
+use Rattle.std.specs.Prelude.{nat_eq, IsTrue}
+use Rattle.std.specs.List.{AllByRecursion}
+use Rattle.std.proofs.lemmas.Bool.{or_right}
 use Rattle.gds_block.specs.Item.{Item}
-use Rattle.gds_pack.specs.Entry.{item, items}
-use Rattle.gds_pack.specs.Packable.{AreIndex, AreLeaves, ArePackable}
-use Rattle.gds_pack.specs.Packed.{first_key, key_behind, packed_size}
-use Rattle.gds_pack.specs.declared.entry.Entry.{Entry}
-use Rattle.gds_split.specs.Pieces.{own_entries, parting_key, starred}
-use Rattle.std.proofs.Common.{◌-◌, inl, inr}
-use Rattle.std.specs.Prelude.{All}
-use Rattle.std.proofs.lemmas.List.Elements.{All-tail}
-use Rattle.gds_split.proofs.SizeLemmas.{own_size}
-use Rattle.gds_splice.proofs.RunLemmas.{rest_whole}
-use Rattle.std.proofs.Math.Seq.{drop-nil}
-use Rattle.std.proofs.lemmas.Bool.{cases_lt}
-use Rattle.std.proofs.lemmas.List.{drop_all, drop-map, length-map, take-append-drop, take-map}
-use Rattle.gds_splice.specs.Parts.{FitInRuns}
-use Rattle.gds_split.proofs.CutLemmas.{last_of, starred_last}
-use Rattle.gds_tree.specs.Below.{as_star}
-use Rattle.gds_tree.proofs.ListLemmas.{index_first, index_front, index_join, leaves_first, leaves_left, leaves_right}
+use Rattle.gds_header.specs.Fields.{fields_of, block_of}
+use Rattle.gds_law.specs.Visit.{Visit}
+use Rattle.gds_sound.specs.Sound.{Tree}
+use Rattle.gds_sound.proofs.CountLemmas.{count, count_append}
+use Rattle.gds_sound.proofs.PathLemmas.{any_counted, counted_any}
+use Rattle.gds_tree.specs.Below.{low_behind}
+use Rattle.gds_tree.specs.Keeps.{IsImage}
+use Rattle.gds_tree.specs.Lawful.{IsTreeNumber}
+use Rattle.gds_tree.specs.Lawful as entries
+use Rattle.gds_file.specs.FileLaws.{IsLawful}
+use Rattle.gds_file.specs.Maps.{has_block}
+use Rattle.gds_file.specs.Reshape.{Reshapes}
+use Rattle.gds_file.specs.Rewrite.{AreAllBusy}
+use Rattle.gds_file.proofs.ReshapeLemmas.{reshapes_in_any_order}
+use Rattle.gds_split.specs.Pieces.{GoInto, HasPieces, HasPieceTrees, IsVisitBelow, Piece, numbers_of}
+use Rattle.gds_split.proofs.CountLemmas.{any_order, counts}
+use Rattle.gds_split.proofs.TreeLemmas.{leaves, over}
+use Rattle.gds_ancestors.specs.Ancestors.{Ancestor, IsAncestor, outer_blocks}
+use Rattle.gds_splice.specs.Parted.{GoesOn, HasBelow, IsParted, MayPart, WritesPieces, part_blocks}
+use Rattle.gds_splice.specs.PartLaws.{GoesIntoPieces}
+use Rattle.gds_splice.proofs.CountedLemmas.{at_has, distinct_same, has_same, others_differ}
+use Rattle.gds_splice.proofs.ImageLemmas.{image_of}
+use Rattle.gds_splice.proofs.MayLemmas.{Stays, part_numbered, stays}
+use Rattle.gds_splice.proofs.WritingLemmas.{busy_now, distinct_after, go_after, lawful_after, not_fresh}
+use Rattle.gds_splice.proofs.WritingLemmas.{number_grown, numbered_after, others_stay, pieces_stand, reshapes_after}
 
--- ---- the last entry
+-- the visit below an ancestor has the bounds of its entry
+pub visit_at : (file : List ℕ) (a : Ancestor) (w : Visit) (level : ℕ) → IsAncestor file a w level
+    → IsVisitBelow a.visit (low_behind a.visit.low a.front) a.entry.key w
+visit_at file a w level k = record {
+  same_role = ap (λ (v : Visit). v.role) k.leads;
+  lower = ap (λ (v : Visit). v.low) k.leads;
+  upper = ap (λ (v : Visit). v.high) k.leads;
+}
 
-pub last_key : (xs : List Entry) (n : ℕ) (e : Entry) (previous : List ℕ) → n + 1 ≡ length xs
-    → e ≡ slice_index_or xs n e → key_behind previous (items xs) ≡ e.key.items
-last_key [] n e previous last is = absurd (omega arith)
-last_key (x ∷ []) zero e previous last is = ap (λ (y : Entry). y.key.items) (sym is)
-last_key (x ∷ []) (suc n) e previous last is = absurd (omega arith)
-last_key (x ∷ y ∷ xs) zero e previous last is = absurd (omega arith)
-last_key (x ∷ y ∷ xs) (suc n) e previous last is = last_key (y ∷ xs) n e x.key.items (omega arith) is
+-- the trees below the entries that lead to the pieces, at any level
+pub trees_over : (file : List ℕ) (v w : Visit) (level : ℕ) (low : Option (List ℕ)) (es : List Item)
+    (pieces : List Piece) (key : List ℕ) (below : Tree) → IsImage file → IsVisitBelow v low key w
+    → entries.IsLawful (fields_of file) w level es → GoInto (fields_of file).total es pieces
+    → HasBelow file w level es below → HasPieces file v level low pieces key
+    → HasPieceTrees file v level low pieces key below
+trees_over file v w zero low es pieces key below i at l g h has = record {
+  tree = record { blocks = numbers_of pieces; items = es };
+  sound = leaves file i v low es pieces key g has;
+  items = sym (ap (λ (t : Tree). t.items) h);
+  blocks = any_order (numbers_of pieces) (numbers_of pieces ++ below.blocks)
+      (λ n. omega (arith, count_append n (numbers_of pieces) below.blocks, ap (λ (t : Tree). count n t.blocks) h));
+}
+trees_over file v w (suc level) low es pieces key below i at l g h has =
+    over file i v level w low es pieces key below at l g h has
 
-pub last_starred : (xs : List Entry) (n : ℕ) (old e : Entry) → n + 1 ≡ length xs → old ≡ slice_index_or xs n old
-    → item e ≡ as_star (item old) → items (slice_set xs n e) ≡ starred (items xs)
-last_starred [] n old e last is star = absurd (omega arith)
-last_starred (x ∷ []) zero old e last is star = ap (λ i. i ∷ []) (star ∙ ap (λ (y : Entry). as_star (item y)) is)
-last_starred (x ∷ []) (suc n) old e last is star = absurd (omega arith)
-last_starred (x ∷ y ∷ xs) zero old e last is star = absurd (omega arith)
-last_starred (x ∷ y ∷ xs) (suc n) old e last is star =
-    ap (λ is. item x ∷ is) (last_starred (y ∷ xs) n old e (omega arith) is star)
+module _ (before after : List ℕ) (root : Visit) (a : Ancestor) (above : List Ancestor) (v : Visit) (level : ℕ)
+    (es : List Item) (below : Tree) (fresh : List ℕ) (pieces : List Piece)
+    (m : MayPart before root (a ∷ above) v level es below) (g : GoInto (fields_of before).total es pieces)
+    (numbers : numbers_of pieces ≡ v.block ∷ fresh) (w : WritesPieces before after fresh level pieces) where
+  abbrev others : List ℕ
+  others = below.blocks ++ outer_blocks (a ∷ above)
 
--- ---- levels
+  abbrev all : List ℕ
+  all = part_blocks (a ∷ above) v below
 
-pub own_leaf : (level : ℕ) (es : List Item) → level ≡ 0 → own_entries level es ≡ es
-own_leaf zero es h = refl
-own_leaf (suc level) es h = absurd (omega arith)
+  numbered : AllByRecursion (IsTreeNumber (fields_of before).total) all
+  numbered = part_numbered before root (a ∷ above) v level es below m
 
-pub own_index : (level : ℕ) (es : List Item) → level ≢ 0 → own_entries level es ≡ starred es
-own_index zero es h = absurd (h refl)
-own_index (suc level) es h = refl
+  among : (n : ℕ) → IsTrue (has_block (numbers_of pieces) n) → IsTrue (has_block (fresh ++ all) n)
+  among n there =
+      counted_any n (fresh ++ all) (omega (
+        arith,
+        any_counted n (numbers_of pieces) there,
+        ap (count n) numbers,
+        count_append n fresh all,
+      ))
 
-pub parting_leaf : (level : ℕ) (front behind : List Item) → level ≡ 0
-    → parting_key level front behind ≡ first_key behind
-parting_leaf zero front behind h = refl
-parting_leaf (suc level) front behind h = absurd (omega arith)
+  reshapes : Reshapes before after all (fresh ++ all)
+  reshapes = reshapes_after before after fresh level es pieces m.maps g w all numbered m.busy among
 
-pub parting_index : (level : ℕ) (front behind : List Item) → level ≢ 0
-    → parting_key level front behind ≡ key_behind [] front
-parting_index zero front behind h = absurd (h refl)
-parting_index (suc level) front behind h = refl
+  lawful : IsLawful after
+  lawful = lawful_after before after fresh level es pieces m.maps g w
 
-pub first_of : (xs : List Entry) (e : Entry) → 0 < length xs → e ≡ slice_index_or xs 0 e
-    → first_key (items xs) ≡ e.key.items
-first_of [] e some is = absurd (omega arith)
-first_of (x ∷ xs) e some is = ap (λ (y : Entry). y.key.items) (sym is)
+  in_all : (n : ℕ) → IsTrue (has_block others n) → IsTrue (has_block all n)
+  in_all n there = or_right (nat_eq n v.block) (has_block others n) there
 
--- ---- packable pieces
+  same : (n : ℕ) → IsTrue (has_block others n) → block_of after n ≡ block_of before n
+  same n there =
+      others_stay before after fresh level es pieces m.maps g w n
+      (at_has (IsTreeNumber (fields_of before).total) all n numbered (in_all n there)).no_map
+      (ap (λ xs. has_block xs n) numbers
+      ∙ (λ i. others_differ v.block others n m.distinct there i
+      || not_fresh before after fresh level es pieces m.maps g w n (m.busy n (in_all n there)) i))
 
-pub own_packable : (level : ℕ) (run behind : List Item) → ArePackable level (run ++ behind) → run ≢ []
-    → behind ≢ [] → ArePackable level (own_entries level run)
-own_packable zero run behind p some more = leaves_left [] run behind p
-own_packable (suc level) run [] p some more = absurd (more refl)
-own_packable (suc level) run (f ∷ b) p some more =
-    let x = last_of run some in
-    let whole : x.front ++ x.last ∷ f ∷ b ≡ run ++ f ∷ b =
-    sym (append_assoc x.front (x.last ∷ []) (f ∷ b)) ∙ ap (λ xs. xs ++ f ∷ b) x.whole in
-    let front = index_front [] x.front x.last (f ∷ b) (subst (AreIndex []) (sym whole) p) in
-    subst (AreIndex []) (sym (starred_last x.front x.last) ∙ ap starred x.whole)
-    (index_join [] x.front (as_star x.last ∷ []) front.leaves front.fours (refl, front.rest.1))
+  kept : Stays after root (a ∷ above) v level es below
+  kept =
+      stays before after (image_of before m.maps) (image_of after lawful) reshapes.limits root (a ∷ above) v level es
+      below m same
 
-pub behind_packable : (level : ℕ) (run behind : List Item) → ArePackable level (run ++ behind) → behind ≢ []
-    → ArePackable level behind
-behind_packable zero run behind p more = leaves_first (key_behind [] run) behind (leaves_right [] run behind p)
-behind_packable (suc level) run [] p more = absurd (more refl)
-behind_packable (suc level) run (f ∷ b) p more =
-    index_first (key_behind [] run) (f ∷ b) (index_front [] run f b p).rest
+  trees : HasPieceTrees after a.visit level (low_behind a.visit.low a.front) pieces a.entry.key below
+  trees =
+      let at = visit_at before a v level m.lead.0 in
+      trees_over after a.visit v level (low_behind a.visit.low a.front) es pieces a.entry.key below
+      (image_of after lawful) at kept.lawful (go_after before after fresh level es pieces m.maps g w) kept.has_below
+      (pieces_stand before after fresh level es pieces m.maps g w a.visit v (low_behind a.visit.low a.front)
+      a.entry.key at m.lawful)
 
--- ---- runs
+  abbrev now : List ℕ
+  now = trees.tree.blocks ++ outer_blocks (a ∷ above)
 
--- No run is empty.
-pub runs_some : (limit : ℕ) (lengths : List ℕ) (es : List Item) → FitInRuns limit lengths es → es ≢ []
-runs_some limit [] es fits = fits.0
-runs_some limit (k ∷ lengths) [] fits = absurd (runs_some limit lengths [] (subst (FitInRuns limit lengths) (drop-nil k) fits.2) refl)
-runs_some limit (k ∷ lengths) (e ∷ es) fits = λ none. absurd (let no : e ∷ es ≡ [] = none in cc)
+  order : (n : ℕ) → count n (fresh ++ all) ≡ count n now
+  order n =
+      omega (
+        arith,
+        count_append n fresh all,
+        count_append n (v.block ∷ below.blocks) (outer_blocks (a ∷ above)),
+        count_append n trees.tree.blocks (outer_blocks (a ∷ above)),
+        counts trees.tree.blocks (numbers_of pieces ++ below.blocks) trees.blocks n,
+        count_append n (numbers_of pieces) below.blocks,
+        ap (count n) numbers,
+      )
 
--- the first run and what is behind it
-pub record FirstRun (limit k : ℕ) (lengths : List ℕ) (es : List Item) : Type 0 where
-  pub some : take k es ≢ []
-  pub more : drop k es ≢ []
-  pub fits : packed_size (take k es) ≤ limit
-  pub rest : FitInRuns limit lengths (drop k es)
+  busy : AreAllBusy after now
+  busy n there =
+      busy_now before after all (fresh ++ all) reshapes
+      (numbered_after before after fresh level es pieces m.maps g w all numbered m.busy among) n
+      (has_same (fresh ++ all) now order n ∙ there)
 
-pub first_run : (limit k : ℕ) (all lengths : List ℕ) (es : List Item) → all ≡ k ∷ lengths → FitInRuns limit all es
-    → FirstRun limit k lengths es
-first_run limit k all lengths es is fits =
-    let f : FitInRuns limit (k ∷ lengths) es = subst (λ xs. FitInRuns limit xs es) is fits in
-    record { some = f.0; more = runs_some limit lengths (drop k es) f.2; fits = f.1; rest = f.2 }
+  parted : IsParted after root a above v level pieces below
+  parted = record {
+    is_root = record {
+      level = m.is_root.level;
+      number = number_grown (fields_of before).total (fields_of after).total root.block reshapes.limits.total
+          m.is_root.number;
+    };
+    lead = kept.lead;
+    child_entries = es;
+    lawful = kept.lawful;
+    go_into = go_after before after fresh level es pieces m.maps g w;
+    over = trees;
+    distinct = distinct_same (fresh ++ all) now order
+        (distinct_after before after fresh level es pieces m.maps g w all numbered m.busy among m.distinct);
+    busy = busy;
+    maps = lawful;
+  }
 
--- ---- the entries of the first run, and those behind
+  pub goes_on : GoesOn before after root a above v level pieces below
+  unfolding parted
+  goes_on = record {
+    parted = parted;
+    reshapes = reshapes_in_any_order before after all (fresh ++ all) all now reshapes (λ n. refl)
+        (has_same (fresh ++ all) now order);
+  }
 
-module _ (level limit k : ℕ) (all lengths : List ℕ) (list run behind : List Entry) (is : all ≡ k ∷ lengths)
-    (fits : FitInRuns limit all (items list)) (packable : ArePackable level (items list))
-    (front : run ≡ take k list) (rest : behind ≡ drop k list) where
-  first : FirstRun limit k lengths (items list)
-  first = first_run limit k all lengths (items list) is fits
-
-  pub run_items : items run ≡ take k (items list)
-  run_items = ap items front ∙ sym (take-map item k list)
-
-  pub behind_items : items behind ≡ drop k (items list)
-  behind_items = ap items rest ∙ sym (drop-map item k list)
-
-  whole : items run ++ items behind ≡ items list
-  whole = (λ i. run_items i ++ behind_items i) ∙ take-append-drop k (items list)
-
-  pub run_some : items run ≢ []
-  run_some none = first.some (sym run_items ∙ none)
-
-  pub behind_some : items behind ≢ []
-  behind_some none = first.more (sym behind_items ∙ none)
-
-  pub run_within : k ≤ length list
-  run_within = elim (cases_lt (length list) k) [
-    | inl h ↦ absurd (first.more (drop_all k (items list) (omega (arith, length-map list item))))
-    | inr h ↦ h
-  ]
-
-  pub run_fits : packed_size (own_entries level (items run)) ≤ limit
-  run_fits =
-      omega (arith, own_size level (items run), ap packed_size run_items, first.fits)
-
-  pub run_packable : ArePackable level (own_entries level (items run))
-  run_packable =
-      own_packable level (items run) (items behind) (subst (ArePackable level) (sym whole) packable) run_some behind_some
-
-  pub rest_fits : FitInRuns limit lengths (items behind)
-  rest_fits = subst (FitInRuns limit lengths) (sym behind_items) first.rest
-
-  pub rest_packable : ArePackable level (items behind)
-  rest_packable =
-      behind_packable level (items run) (items behind) (subst (ArePackable level) (sym whole) packable) behind_some
-
-pub some_items : (xs : List Entry) → items xs ≢ [] → 0 < length xs
-some_items [] h = absurd (h refl)
-some_items (x ∷ xs) h = omega arith
-
--- ---- the numbers behind the first
-
-pub other_numbers : (numbers : List ℕ) → take (length numbers - 1) (drop 1 numbers) ≡ drop 1 numbers
-other_numbers numbers = rest_whole 1 numbers
-
-within_tail : (total : ℕ) (numbers : List ℕ) → All (λ n. n < total) numbers → All (λ n. n < total) (drop 1 numbers)
-within_tail total [] all = all
-within_tail total (n ∷ numbers) all = All-tail (λ m. m < total) n numbers all
-
-pub others_within : (total now : ℕ) (numbers : List ℕ) → now ≡ total → All (λ n. n < total) numbers
-    → All (λ n. n < now) (take (length numbers - 1) (drop 1 numbers))
-others_within total now numbers same all =
-    subst (λ t. All (λ n. n < t) (take (length numbers - 1) (drop 1 numbers))) (sym same)
-    (subst (λ xs. All (λ n. n < total) xs) (sym (other_numbers numbers)) (within_tail total numbers all))
+pub goes_into_pieces : GoesIntoPieces
+goes_into_pieces before after root a above v level es below fresh pieces m g numbers w =
+    goes_on before after root a above v level es below fresh pieces m g numbers w

@@ -22,7 +22,7 @@ use Rattle.gds_splice.specs.Parts.{above_parts, part_entry, pieces_of}
 use Rattle.gds_splice.specs.declared.parts.Part.{Part}
 use Rattle.gds_splice.specs.declared.parts.Parts.{Parts}
 use Rattle.gds_splice.specs.Writing.{PutsEntries, PutsPieces}
-use Rattle.gds_splice.proofs.PieceLemmas.{other_numbers}
+use Rattle.gds_splice.proofs.CuttingLemmas.{other_numbers}
 
 -- ---- pieces by lengths and numbers
 

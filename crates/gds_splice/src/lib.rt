@@ -11,7 +11,10 @@ mod sizes;
 mod taking;
 mod writing;
 
-pub use laws::{block_stays_one, taken_blocks};
+pub use laws::{
+    ancestor_may_part, block_goes_into_pieces, block_stays_one, leaf_may_part, pieces_are_there,
+    root_is_raised, taken_blocks, tree_becomes,
+};
 pub use node::{Node, read_node};
 pub use packable::is_packable;
 pub use parting::part;

@@ -11,9 +11,9 @@ use Rattle.gds_splice.proofs.PutLemmas.{first_piece, last_piece, parts_more}
 use Rattle.gds_header.specs.declared.header.Header.{Header}
 use Rattle.gds_pack.specs.Packable.{ArePackable}
 use Rattle.gds_pack.specs.Packed.{packed_size}
-use Rattle.gds_splice.proofs.WritingLemmas.{draft_with_more}
+use Rattle.gds_splice.proofs.EntriesPutLemmas.{draft_with_more}
 use Rattle.gds_pack.specs.Entry.{items}
-use Rattle.gds_splice.proofs.PieceLemmas.{behind_items, behind_some, run_items, other_numbers, others_within, rest_fits, rest_packable, run_fits, run_packable, run_within, some_items}
+use Rattle.gds_splice.proofs.CuttingLemmas.{behind_items, behind_some, run_items, other_numbers, others_within, rest_fits, rest_packable, run_fits, run_packable, run_within, some_items}
 use Rattle.gds_splice.proofs.pieces.+write_pieces.Goals as goal
 
 pub split_off-requires : goal.split_off-requires

@@ -2,7 +2,7 @@ use Rattle.std.proofs.Common.{ap, sym, ◌∙◌}
 use Rattle.std.proofs.lemmas.Result.{on_ok_weaker}
 use Rattle.gds_pack.specs.Entry.{items}
 use Rattle.gds_pack.specs.Packed.{block_bytes}
-use Rattle.gds_splice.proofs.WritingLemmas.{entries_put, more_by_put}
+use Rattle.gds_splice.proofs.EntriesPutLemmas.{entries_put, more_by_put}
 use Rattle.gds_splice.proofs.writing.put_packed.Goals as goal
 
 pub returns-clause-put : goal.returns-clause-put
