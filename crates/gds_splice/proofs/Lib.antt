@@ -15,3 +15,4 @@ pub mod DraftingLemmas
 pub mod TakingLemmas
 pub mod CuttingLemmas
 pub mod PutLemmas
+pub mod AboveLemmas

@@ -1,6 +1,7 @@
 //! A block of a tree gets other entries or goes into pieces, and the index blocks above it are told.
 #![tactic(auto)]
 
+mod above;
 mod laws;
 mod node;
 mod packable;
