@@ -1,5 +1,7 @@
 -- What calls on a base and a draft of it leave, one after another.
 use Rattle.std.proofs.Common.{◌≡◌, ◌+◌, ◌≤◌, ℕ, Option, Result, Ok, Err, List, length, refl, sym, ap, ◌∙◌, subst, arith}
+use Rattle.std.specs.Prelude.{IsErrAnd}
+use Rattle.std.proofs.lemmas.Result.{err_from_is_err_and}
 use Rattle.host_model.specs.Failures.{Failures, NeverFell, Rose}
 use Rattle.host_model.specs.Files.{Contents}
 use Rattle.host_model.specs.Frames.{WasRead}
@@ -87,3 +89,24 @@ module _ {H : Type 0} (told : H → Option Contents) (moment : H → ℕ) (count
   pub same_total : (a b : UnitsState H) (x y : DraftState) (m : ℕ)
       → OnlyDrafts told moment counts left_since a b x y m → y.header.total ≡ x.header.total
   same_total a b x y m only = ap (λ (h : Header). h.total) only.header
+
+-- How a call ended behind others, as they ended together.
+ends_err : (T U : Type 0) (a b c : Failures) (P Q : Type 0) (e : BaseError) → NeverFell a b → (P → Q)
+    → EndsReading {T = T} b c P (Err e) → EndsReading {T = U} a c Q (Err e)
+ends_err T U a b c P Q answer.Memory never so ends = tt
+ends_err T U a b c P Q answer.ReadFault never so ends = omega (arith, never.read)
+ends_err T U a b c P Q (answer.Changed unit) never so ends = so ends
+ends_err T U a b c P Q answer.WriteFault never so ends = absurd ends
+ends_err T U a b c P Q answer.Stopped never so ends = absurd ends
+ends_err T U a b c P Q answer.KeyTooLong never so ends = absurd ends
+ends_err T U a b c P Q answer.ValueTooLong never so ends = absurd ends
+ends_err T U a b c P Q answer.Full never so ends = absurd ends
+ends_err T U a b c P Q answer.TooDeep never so ends = absurd ends
+ends_err T U a b c P Q answer.TnSpent never so ends = absurd ends
+
+pub ends_exit : (T U : Type 0) (a b c : Failures) (P Q : Type 0) (e : BaseError) (result : Result U BaseError)
+    → NeverFell a b → (P → Q) → IsErrAnd result (λ y. y ≡ e) → EndsReading {T = T} b c P (Err e)
+    → EndsReading {T = U} a c Q result
+ends_exit T U a b c P Q e result never so exit ends =
+    let x = err_from_is_err_and result exit in
+    subst (EndsReading {T = U} a c Q) (sym (x.1 ∙ ap Err x.2)) (ends_err T U a b c P Q e never so ends)

@@ -16,3 +16,4 @@ pub mod TakingLemmas
 pub mod CuttingLemmas
 pub mod PutLemmas
 pub mod AboveLemmas
+pub mod ToldLemmas

@@ -4,3 +4,4 @@ pub mod Parts
 pub mod Parting
 pub mod Writing
 pub mod Ending
+pub mod Told

@@ -10,6 +10,7 @@ mod parts;
 mod pieces;
 mod sizes;
 mod taking;
+mod telling;
 mod writing;
 
 pub use laws::{

@@ -1,10 +1,9 @@
-use Rattle.std.proofs.Common.{◌≡◌, ◌∙◌, ◌<◌, List, length, take, ap, sym, subst, arith, refl}
+use Rattle.std.proofs.Common.{◌∙◌, List, length, take, ap, sym, subst, arith, refl}
 use Rattle.std.proofs.lemmas.Bool.{false≢true}
 use Rattle.gds_pack.specs.Entry.{items}
 use Rattle.gds_pack.specs.Packable.{ArePackable}
 use Rattle.gds_pack.specs.Packed.{packed_size}
 use Rattle.gds_pack.specs.declared.entry.Entry.{Entry}
-use Rattle.gds_splice.specs.Parts.{TellsOf, told_entries}
 use Rattle.gds_splice.proofs.AboveLemmas.{told_is}
 use Rattle.gds_splice.proofs.above.tell.Goals as goal
 
