@@ -17,3 +17,4 @@ pub mod CuttingLemmas
 pub mod PutLemmas
 pub mod AboveLemmas
 pub mod ToldLemmas
+pub mod DividedLemmas

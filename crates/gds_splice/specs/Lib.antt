@@ -5,3 +5,4 @@ pub mod Parting
 pub mod Writing
 pub mod Ending
 pub mod Told
+pub mod Divided

@@ -2,6 +2,7 @@
 #![tactic(auto)]
 
 mod above;
+mod dividing;
 mod laws;
 mod node;
 mod packable;
@@ -13,6 +14,7 @@ mod taking;
 mod telling;
 mod writing;
 
+pub use dividing::divide;
 pub use laws::{
     ancestor_may_part, block_goes_into_pieces, block_stays_one, leaf_may_part, pieces_are_there,
     root_is_raised, taken_blocks, tree_becomes,

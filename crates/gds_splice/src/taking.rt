@@ -23,6 +23,7 @@ pub fn take_blocks<H: Host>(
     ensures taken { IfOk result (λ numbers. Drafts base.old draft.old draft.new (λ before after.
         IsLawful before → TakesAll before after numbers.items)) }
     ensures count { IfOk result (λ numbers. length numbers.items ≡ count) }
+    ensures free { OnOk result (draft.old.header.free ≡ draft.new.header.free + count) }
     ensures within { IfOk result (λ numbers. All (λ n. n < draft.old.header.total) numbers.items) }
     ensures drafts { OnlyDrafts H.told H.moment H.failures H.left_since base.old base.new draft.old draft.new count }
     ensures ends { EndsReading (H.failures base.old.host) (H.failures base.new.host)

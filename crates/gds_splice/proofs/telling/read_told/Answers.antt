@@ -5,7 +5,7 @@ use Rattle.gds_header.specs.declared.header.Header.{Header}
 use Rattle.gds_splice.specs.declared.node.Node.{Node}
 use Rattle.gds_splice.proofs.DraftingLemmas.{ends_exit}
 use Rattle.gds_splice.proofs.EntriesPutLemmas.{drafted_fields}
-use Rattle.gds_splice.proofs.ToldLemmas.{can_read, can_tell, node_told}
+use Rattle.gds_splice.proofs.ToldLemmas.{can_read}
 use Rattle.gds_splice.proofs.telling.read_told.Goals as goal
 
 pub returns-in_err-node-clause-ends : goal.returns-in_err-node-clause-ends
