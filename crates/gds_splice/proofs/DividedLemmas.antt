@@ -73,3 +73,7 @@ divides_by before mid after kept fresh lengths numbers level size es parts l bus
       told = λ key. subst (λ ns. pieces_above level (pieces_of lengths ns es) key ≡ above_parts parts key) are
           (told key);
     }
+
+-- no blocks are all busy
+pub none_busy : (file : List ℕ) → AreAllBusy file []
+none_busy file n there = absurd (false≢true there)

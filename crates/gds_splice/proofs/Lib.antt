@@ -18,3 +18,4 @@ pub mod PutLemmas
 pub mod AboveLemmas
 pub mod ToldLemmas
 pub mod DividedLemmas
+pub mod EndingLemmas

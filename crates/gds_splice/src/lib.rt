@@ -9,6 +9,7 @@ mod packable;
 mod parting;
 mod parts;
 mod pieces;
+mod raising;
 mod sizes;
 mod taking;
 mod telling;
