@@ -3,6 +3,7 @@
 
 mod above;
 mod dividing;
+mod halving;
 mod laws;
 mod node;
 mod packable;
@@ -16,6 +17,7 @@ mod telling;
 mod writing;
 
 pub use dividing::divide;
+pub use halving::Growth;
 pub use laws::{
     ancestor_may_part, block_goes_into_pieces, block_stays_one, leaf_may_part, pieces_are_there,
     root_is_raised, taken_blocks, tree_becomes,

@@ -78,7 +78,7 @@ pub(crate) fn place_at(entries: &[Entry], offset: u32) -> Option<usize>
 }
 
 /// The size of an entry's record behind a key, at most 2^64 - 1.
-fn record_size(previous: &[u8], entry: &Entry) -> u64
+pub(crate) fn record_size(previous: &[u8], entry: &Entry) -> u64
     ensures { result ≡ min (record_size previous.now (item entry.now)) (2 ^ 64 - 1) }
 {
     let key = entry.key.len() - shared_len(previous, entry.key.as_slice());
