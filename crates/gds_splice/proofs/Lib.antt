@@ -19,3 +19,4 @@ pub mod AboveLemmas
 pub mod ToldLemmas
 pub mod DividedLemmas
 pub mod EndingLemmas
+pub mod OneUpLemmas

@@ -5,6 +5,7 @@ mod above;
 mod dividing;
 mod laws;
 mod node;
+mod one_up;
 mod packable;
 mod parting;
 mod parts;
