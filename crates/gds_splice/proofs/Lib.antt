@@ -20,3 +20,4 @@ pub mod ToldLemmas
 pub mod DividedLemmas
 pub mod EndingLemmas
 pub mod OneUpLemmas
+pub mod PartingLemmas
