@@ -52,3 +52,10 @@ pub parting_ends : (T : Type 0) (a b c : Failures) (P Q D F : Type 0) (result : 
     → (P → Q) → (D → F) → EndsParting {T = T} b c P D result → EndsParting {T = T} a c Q F result
 parting_ends T a b c P Q D F (Ok value) never so too ends = tt
 parting_ends T a b c P Q D F (Err e) never so too ends = parting_err T T a b c P Q D F e never so too ends
+
+pub parting_exit : (T U : Type 0) (a b c : Failures) (P Q D F : Type 0) (e : BaseError) (result : Result U BaseError)
+    → NeverFell a b → (P → Q) → (D → F) → IsErrAnd result (λ y. y ≡ e) → EndsParting {T = T} b c P D (Err e)
+    → EndsParting {T = U} a c Q F result
+parting_exit T U a b c P Q D F e result never so too exit ends =
+    let x = err_from_is_err_and result exit in
+    subst (EndsParting {T = U} a c Q F) (sym (x.1 ∙ ap Err x.2)) (parting_err T U a b c P Q D F e never so too ends)

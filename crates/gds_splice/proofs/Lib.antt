@@ -20,3 +20,5 @@ pub mod ToldLemmas
 pub mod DividedLemmas
 pub mod EndingLemmas
 pub mod HalfLemmas
+pub mod OneUpLemmas
+pub mod PartingLemmas

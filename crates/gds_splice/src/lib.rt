@@ -6,6 +6,7 @@ mod dividing;
 mod halving;
 mod laws;
 mod node;
+mod one_up;
 mod packable;
 mod parting;
 mod parts;
