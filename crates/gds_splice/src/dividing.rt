@@ -8,10 +8,10 @@ ghost use Rattle.gds_pack.specs.Packable.{ArePackable};
 ghost use Rattle.gds_splice.specs.Divided.{Divides};
 ghost use Rattle.gds_splice.specs.Parts.{FitInThree};
 
+use crate::halving::{Growth, cut_for};
 use crate::node::Node;
 use crate::parts::Parts;
 use crate::pieces::write_pieces;
-use crate::sizes::cut;
 use crate::taking::take_blocks;
 use arrayvec::ArrayVec;
 use gds_base::{Base, BaseError};
@@ -20,13 +20,15 @@ use host_model::Host;
 use std::alloc::Global;
 
 /// Puts the entries of a block into pieces, as few as they fit: the first of them in the block that is kept, if any, and
-/// the others in free blocks. `Changed` comes where three pieces don't suffice.
+/// the others in free blocks. Where two suffice both get half of the bytes, unless the entries grow at their end.
+/// `Changed` comes where three pieces don't suffice.
 pub fn divide<H: Host>(
     alloc: Global,
     base: &mut Base<H>,
     draft: &mut Draft,
     kept: &[u32],
     node: Node,
+    growth: Growth,
 ) -> Result<Parts, BaseError>
     requires draft { IsDraftFor base.old.header draft.old }
     requires one { length kept.now ≤ 1 }
@@ -45,7 +47,7 @@ pub fn divide<H: Host>(
         → 3 ≤ draft.old.header.free + length kept.now → ⊥)) result }
 {
     base.hold_draft(draft);
-    let Some(lengths) = cut(&node.entries, base.header().block_size) else {
+    let Some(lengths) = cut_for(&node.entries, base.header().block_size, growth) else {
         return Err(BaseError::Changed { unit: 0 });
     };
     let fresh = take_blocks(alloc, base, draft, lengths.len() + 1 - kept.len())?;

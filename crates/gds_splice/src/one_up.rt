@@ -4,6 +4,7 @@ ghost use Rattle.gds_splice.specs.Ending.{EndsParting};
 ghost use Rattle.gds_splice.specs.OneUp.{CannotTellOne, IsAtEnd, TellsOne};
 
 use crate::dividing::divide;
+use crate::halving::Growth;
 use crate::parts::{Parts, Step};
 use crate::raising::raise_root;
 use crate::telling::read_told;
@@ -41,9 +42,10 @@ pub(crate) fn tell_one<H: Host>(
         put_entries(alloc, base, draft, step.block, node.level, &node.entries)?;
         return Ok(None);
     }
+    let growth = Growth::at(&node.entries, step.offset, parts.parted.len() + 1);
     if is_root {
-        raise_root(alloc, base, draft, step.block, node)?;
+        raise_root(alloc, base, draft, step.block, node, growth)?;
         return Ok(None);
     }
-    Ok(Some(divide(alloc, base, draft, &[step.block], node)?))
+    Ok(Some(divide(alloc, base, draft, &[step.block], node, growth)?))
 }

@@ -10,6 +10,7 @@ ghost use Rattle.gds_splice.specs.Writing.{HasMore, PutsEntries};
 
 use crate::above::entries_above;
 use crate::dividing::divide;
+use crate::halving::Growth;
 use crate::node::Node;
 use crate::packable::is_packable;
 use crate::writing::put_entries;
@@ -27,6 +28,7 @@ pub(crate) fn raise_root<H: Host>(
     draft: &mut Draft,
     root: u32,
     node: Node,
+    growth: Growth,
 ) -> Result<(), BaseError>
     requires draft { IsDraftFor base.old.header draft.old }
     requires there { root < draft.old.header.total }
@@ -44,7 +46,7 @@ pub(crate) fn raise_root<H: Host>(
         return Err(BaseError::TooDeep);
     }
     let level = node.level + 1;
-    let parts = divide(alloc, base, draft, &[], node)?;
+    let parts = divide(alloc, base, draft, &[], node, growth)?;
     let entries = entries_above(alloc, &parts, &[])?;
     put_checked(alloc, base, draft, root, level, &entries)
 }
