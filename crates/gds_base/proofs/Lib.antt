@@ -1,0 +1,5 @@
+pub mod ReadingLemmas
+pub mod PutLemmas
+pub mod PlanLemmas
+pub mod CommitLemmas
+pub mod RoomLemmas

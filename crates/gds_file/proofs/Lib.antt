@@ -11,3 +11,8 @@ pub mod ChangeLemmas
 pub mod KillLemmas
 pub mod RewriteLemmas
 pub mod TakeLemmas
+pub mod FreeCountLemmas
+pub mod MarkLemmas
+pub mod FreeLemmas
+pub mod GrowLemmas
+pub mod RoomLemmas

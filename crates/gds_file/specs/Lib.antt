@@ -11,3 +11,9 @@ pub mod Rewrite
 pub mod RewriteLaws
 pub mod Take
 pub mod TakeLaws
+pub mod Free
+pub mod FreeLaws
+pub mod Room
+pub mod Grow
+pub mod GrowLaws
+pub mod RoomLaws

@@ -2,9 +2,12 @@ ghost use Rattle.gds_file.specs.ChangeLaws.{ItemsOutsideAreKill, KillInOneTree, 
 ghost use Rattle.gds_file.specs.ChangeLaws.{SetInOneTree, SetItemIsSet};
 ghost use Rattle.gds_file.specs.FileLaws.{DirectoryChanges, EntryComes, EntryGoes, GlobalChanges, NoTreeChanges};
 ghost use Rattle.gds_file.specs.FileLaws.{StampKeepsTrees};
+ghost use Rattle.gds_file.specs.FreeLaws.{FreeReshapes, FreeStaysLawful};
+ghost use Rattle.gds_file.specs.GrowLaws.{GrowReshapes, GrowStaysLawful};
 ghost use Rattle.gds_file.specs.MapLaws.{MapsAreRightInTwoParts};
 ghost use Rattle.gds_file.specs.ReshapeLaws.{NothingReshapes, ReshapesCompose, ReshapesInAnyOrder, ReshapesWithMore};
 ghost use Rattle.gds_file.specs.RewriteLaws.{RewriteKeepsHeader, RewriteReshapes, RewriteStaysLawful, RewritesCompose};
+ghost use Rattle.gds_file.specs.RoomLaws.{ExtendedHasRoom, RoomByHeader};
 ghost use Rattle.gds_file.specs.SameLaws.{SameCarriesOver};
 ghost use Rattle.gds_file.specs.TakeLaws.{TakeReshapes, TakeStaysLawful};
 
@@ -40,6 +43,25 @@ pub fn rewrites()
 pub fn takes()
     ensures lawful { TakeStaysLawful }
     ensures reshapes { TakeReshapes }
+{}
+
+/// A busy block becomes free: the maps stay lawful, and it is a change of that block to none.
+pub fn frees()
+    ensures lawful { FreeStaysLawful }
+    ensures reshapes { FreeReshapes }
+{}
+
+/// A file grows: its maps stay lawful, and it is a change of no block to none.
+pub fn grows()
+    ensures lawful { GrowStaysLawful }
+    ensures reshapes { GrowReshapes }
+{}
+
+/// The room of a file is how many blocks would be free if it grew to its limit. Where it grows by its extension, at
+/// least 32 are free exactly where there is room for 32.
+pub fn grown_room()
+    ensures by_header { RoomByHeader }
+    ensures extended { ExtendedHasRoom }
 {}
 
 /// A sound file stays sound where it only grows, where the tree of the directory or of one global becomes another sound
