@@ -83,8 +83,8 @@ module _ (file : List ℕ) (v : Visit) (key : List ℕ) (image : IsImage file) (
       index es has below trees None is = is
       index es has below trees (Some (Here offset place)) is = absurd (omega (arith, is.0))
       index es has below trees (Some (Down height offset block)) is =
-          goes_on file v level below es key (record { offset = offset; block = block }) image has trees holds is_key is.2
-          height is.0
+          goes_on file v level below es key (record { offset = offset; block = block }) image has trees holds is_key
+          is.2 height is.0
 
 -- The block of a visit with a sound tree says where the way of the key goes on.
 pub turned : (file : List ℕ) (v : Visit) (block : ℕ) (due : Option ℕ) (key bytes : List ℕ) (o : Option Turn)
@@ -92,11 +92,12 @@ pub turned : (file : List ℕ) (v : Visit) (block : ℕ) (due : Option ℕ) (key
     → SaysTurn bytes due key o → IsSomeAnd o (TurnsAt file v key)
 turned file v block due key bytes o exact tree is all says =
     let own : bytes ≡ block_of file v.block = is ∙ ap (block_of file) (sym tree.block_is) in
+    let said : SaysTurn (block_of file v.block) v.level key o =
+    subst (λ d. SaysTurn (block_of file v.block) d key o) (sym tree.level_is)
+    (subst (λ xs. SaysTurn xs due key o) own says) in
     by_level file v key exact.image (tree_within file v tree.tree exact.long tree.sound)
-    (subst (All (λ b. b < 256)) own all) tree.holds tree.is_key o
-    (λ height es is_key due_level packed. says height es is_key (subst (λ d. IsDueLevel d height) tree.level_is due_level)
-    (subst (λ xs. IsPackedBlock xs height es) (sym own) packed))
-    (level_of (block_of file v.block)) tree.tree tree.sound
+    (subst (All (λ b. b < 256)) own all) tree.holds tree.is_key o said (level_of (block_of file v.block)) tree.tree
+    tree.sound
 
 -- ---- what is answered, where the image is told
 

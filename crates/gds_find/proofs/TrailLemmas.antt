@@ -47,8 +47,8 @@ within_pushed total old new block offset is low all =
     subst (All (λ s. s.block < total)) (sym is)
     (All-push (λ s. s.block < total) old (record { block = block; offset = offset }) all low)
 
-module _ (file : List ℕ) (v : Visit) (key : List ℕ) (block : ℕ) (due : Option ℕ) (tree : HasTreeFor file v block due key)
-    (offset : ℕ) (place : Place) where
+module _ (file : List ℕ) (v : Visit) (key : List ℕ) (block : ℕ) (due : Option ℕ)
+    (tree : HasTreeFor file v block due key) (offset : ℕ) (place : Place) where
   -- The way ends in the block of the visit.
   trail_here : EndsHere file v key offset place → IsTrail file v key ((block, offset) ∷ []) place.is_equal place
   trail_here here =

@@ -27,7 +27,7 @@ pub fn find<H: Host>(
     ensures found { OnOk result (WithDraft base.old draft.now (λ file. (v : Visit)
         → HasTreeFor file v root None key.now
         → IsTrail file v key.now (steps_of trail.new.steps.items) trail.new.found trail.new.place)) }
-    ensures few { OnOk result (length trail.new.steps.items ≤ 8) }
+    ensures count { OnOk result ((1 ≤ length trail.new.steps.items) × (length trail.new.steps.items ≤ 8)) }
     ensures within { OnOk result (All (λ s. s.block < draft.now.header.total) trail.new.steps.items) }
     ensures read { OnlyRead H.told H.moment H.failures H.left_since base.old base.new }
     ensures ends { EndsReading (H.failures base.old.host) (H.failures base.new.host)
@@ -52,7 +52,8 @@ fn go_down<H: Host>(
         → HasTreeFor file v block due key.now
         → TrailsOn file v key.now (steps_of trail.old.steps.items) (steps_of trail.new.steps.items)
         trail.new.found trail.new.place)) }
-    ensures few { OnOk result (length trail.new.steps.items ≤ 8) }
+    ensures count { OnOk result ((length trail.old.steps.items < length trail.new.steps.items)
+        × (length trail.new.steps.items ≤ 8)) }
     ensures within { OnOk result (All (λ s. s.block < draft.now.header.total) trail.old.steps.items
         → All (λ s. s.block < draft.now.header.total) trail.new.steps.items) }
     ensures read { OnlyRead H.told H.moment H.failures H.left_since base.old base.new }
