@@ -3,3 +3,5 @@ pub mod PutLemmas
 pub mod PlanLemmas
 pub mod CommitLemmas
 pub mod RoomLemmas
+pub mod MomentLemmas
+pub mod CommittedLemmas
