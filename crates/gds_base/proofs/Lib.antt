@@ -3,3 +3,4 @@ pub mod PlaceLemmas
 pub mod MapLemmas
 pub mod ReadingLemmas
 pub mod PutLemmas
+pub mod FreeingLemmas
