@@ -9,3 +9,4 @@ pub mod RoomLemmas
 pub mod MomentLemmas
 pub mod CommittedLemmas
 pub mod FreeingLemmas
+pub mod FindsLemmas
