@@ -3,11 +3,14 @@
 
 mod base;
 mod calls;
+mod commit;
 mod error;
 mod groups;
+mod laws;
 mod plan;
 mod reading;
 mod spaces;
 
 pub use base::Base;
 pub use error::BaseError;
+pub use laws::finds;

@@ -22,7 +22,6 @@ use Rattle.gds_pack.specs.Packed.{block_bytes, packed_size}
 use Rattle.gds_sound.specs.Sound.{Tree}
 use Rattle.gds_split.specs.Pieces.{GoInto, Piece, numbers_of, pieces_above}
 use Rattle.gds_tree.specs.Around.{around}
-use Rattle.gds_tree.specs.Keeps.{IsImage}
 use Rattle.gds_tree.specs.Lawful.{IsTreeNumber}
 use Rattle.gds_ancestors.specs.Ancestors.{Ancestor, outer_blocks}
 use Rattle.gds_ancestors.proofs.VisitLemmas.{number_of}
@@ -38,7 +37,7 @@ use Rattle.gds_splice.specs.Told.{IsStepTo, IsTold}
 use Rattle.gds_splice.specs.Writing.{PutsEntries}
 use Rattle.gds_splice.specs.declared.node.Node.{Node}
 use Rattle.gds_splice.specs.declared.parts.Parts.{Parts}
-use Rattle.gds_splice.specs.declared.parts.Step.{Step}
+use Rattle.gds_find.specs.declared.trail.Step.{Step}
 use Rattle.gds_splice.proofs.AncestorLemmas.{ancestor_becomes, ancestor_may_part, parted_has_room}
 use Rattle.gds_splice.proofs.DividedLemmas.{had_some}
 use Rattle.gds_splice.proofs.ImageLemmas.{image_of}

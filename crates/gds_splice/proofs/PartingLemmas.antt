@@ -1,15 +1,13 @@
 -- Parts that are told upwards, one index block after another.
-use Rattle.std.proofs.Common.{◌≡◌, ◌+◌, ◌*◌, ◌<◌, ◌≤◌, ℕ, suc, Bool, true, false, List, [], ◌∷◌, ◌++◌, length, refl, sym, ap, ◌∙◌, subst, arith}
+use Rattle.std.proofs.Common.{◌≡◌, ◌+◌, ◌≤◌, ℕ, suc, Bool, false, List, [], ◌∷◌, ◌++◌, length, refl, sym, ap, ◌∙◌, arith}
 use Rattle.std.proofs.Common.{length-append, rules, tests}
-use Rattle.std.specs.Prelude.{All, map, nat_eq, ◌==◌}
+use Rattle.std.specs.Prelude.{◌==◌}
 use Rattle.std.proofs.lemmas.Bool.{false≢true}
 use Rattle.std.proofs.lemmas.List.{length-map, map-append}
 use Rattle.std.proofs.lemmas.List.Elements.{All-cons, All-from_recursion, recursion_from_All}
 use Rattle.std.specs.List.{AllByRecursion}
 use Rattle.gds_file.specs.Reshape.{KeepsLimits}
 use Rattle.gds_header.specs.Fields.{fields_of}
-use Rattle.gds_header.specs.declared.header.Header.{Header}
-use Rattle.gds_law.specs.Path.{Steps}
 use Rattle.gds_law.specs.Visit.{Visit}
 use Rattle.gds_pack.specs.Packed.{packed_size}
 use Rattle.gds_sound.specs.Sound.{Tree}
@@ -17,11 +15,11 @@ use Rattle.gds_split.specs.Pieces.{Piece}
 use Rattle.gds_tree.specs.Around.{around}
 use Rattle.gds_ancestors.specs.Ancestors.{Ancestor, outer_blocks, steps_to}
 use Rattle.gds_splice.specs.OneUp.{AreNone, CannotTellOne, EndsHere, GoesOnUp, GoesUp, IsAtEnd, IsToTell}
-use Rattle.gds_splice.specs.Parted.{TreeBecomes, items_around, part_blocks}
-use Rattle.gds_splice.specs.Parting.{CannotGrow, CannotPart, IsFull, IsToPart, IsTooDeep, PartsUpwards}
-use Rattle.gds_splice.specs.Parts.{steps_of}
+use Rattle.gds_splice.specs.Parted.{items_around, part_blocks}
+use Rattle.gds_splice.specs.Parting.{CannotGrow, CannotPart, IsFull, IsToPart, PartsUpwards}
+use Rattle.gds_find.specs.Trail.{steps_of}
 use Rattle.gds_splice.specs.declared.parts.Parts.{Parts}
-use Rattle.gds_splice.specs.declared.parts.Step.{Step}
+use Rattle.gds_find.specs.declared.trail.Step.{Step}
 use Rattle.gds_splice.proofs.AboveLemmas.{same_parts}
 use Rattle.gds_splice.proofs.AncestorLemmas.{ancestor_becomes, becomes_behind}
 

@@ -1,5 +1,5 @@
 -- A block whose entries are put into several.
-use Rattle.std.specs.Prelude.{◌≡◌, ◌+◌, ◌≤◌, ℕ, suc, List, [], ◌++◌, length}
+use Rattle.std.specs.Prelude.{◌≡◌, ◌+◌, ◌≤◌, ℕ, List, [], ◌++◌, length}
 use Rattle.gds_block.specs.Item.{Item}
 use Rattle.gds_file.specs.FileLaws.{IsLawful}
 use Rattle.gds_header.specs.Fields.{fields_of}

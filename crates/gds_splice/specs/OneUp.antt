@@ -1,5 +1,5 @@
 -- One index block is told of the parts of its child, and stays one block or goes into parts itself.
-use Rattle.std.specs.Prelude.{◌≡◌, ◌<◌, ◌≤◌, ℕ, suc, Bool, true, false, List, [], ◌∷◌, ◌++◌, length, Option, None, Some}
+use Rattle.std.specs.Prelude.{◌≡◌, ◌≤◌, ℕ, suc, Bool, true, false, List, [], ◌∷◌, ◌++◌, length, Option, None, Some}
 use Rattle.gds_header.specs.Fields.{fields_of}
 use Rattle.gds_law.specs.Visit.{Visit}
 use Rattle.gds_pack.specs.Packed.{packed_size}
@@ -11,7 +11,7 @@ use Rattle.gds_splice.specs.Parted.{GoesOn, IsParted, TreeBecomes, items_around}
 use Rattle.gds_splice.specs.Parting.{IsFull, IsTooDeep}
 use Rattle.gds_splice.specs.Parts.{above_parts}
 use Rattle.gds_splice.specs.declared.parts.Parts.{Parts}
-use Rattle.gds_splice.specs.declared.parts.Step.{Step}
+use Rattle.gds_find.specs.declared.trail.Step.{Step}
 
 -- Whether these are no ancestors.
 abbrev pub AreNone : List Ancestor → Bool → Type 0

@@ -26,7 +26,7 @@ pub use laws::{
 pub use node::{Node, read_node};
 pub use packable::is_packable;
 pub use parting::part;
-pub use parts::{Part, Parts, Step};
+pub use parts::{Part, Parts};
 pub use pieces::write_pieces;
 pub use taking::take_blocks;
 pub use writing::put_entries;

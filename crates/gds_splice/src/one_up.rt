@@ -5,12 +5,13 @@ ghost use Rattle.gds_splice.specs.OneUp.{CannotTellOne, IsAtEnd, TellsOne};
 
 use crate::dividing::divide;
 use crate::halving::Growth;
-use crate::parts::{Parts, Step};
+use crate::parts::Parts;
 use crate::raising::raise_root;
 use crate::telling::read_told;
 use crate::writing::put_entries;
 use gds_base::{Base, BaseError};
 use gds_draft::Draft;
+use gds_find::Step;
 use gds_pack::packed_size;
 use host_model::Host;
 use std::alloc::Global;

@@ -1,13 +1,12 @@
-use Rattle.std.proofs.Common.{◌≡◌, ◌+◌, ◌≤◌, ◌∷◌, ◌++◌, [], Bool, false, List, ℕ, Option, Some, length, ap, sym, ◌∙◌, subst, arith}
+use Rattle.std.proofs.Common.{◌≡◌, ◌+◌, ◌≤◌, ◌∷◌, ◌++◌, [], false, List, ℕ, Option, length, ap, ◌∙◌, subst, arith}
 use Rattle.std.specs.Prelude.{IfSome, ◌==◌}
 use Rattle.std.proofs.lemmas.Result.{on_ok_weaker}
 use Rattle.host_model.proofs.FailureLemmas.{NeverFell-refl}
 use Rattle.gds_draft.specs.Drafted.{drafted}
-use Rattle.gds_header.specs.Fields.{fields_of}
 use Rattle.gds_header.specs.declared.header.Header.{Header}
 use Rattle.gds_splice.specs.OneUp.{TellsOne}
 use Rattle.gds_splice.specs.declared.parts.Parts.{Parts}
-use Rattle.gds_splice.specs.declared.parts.Step.{Step}
+use Rattle.gds_find.specs.declared.trail.Step.{Step}
 use Rattle.gds_splice.proofs.DraftingLemmas.{same_image}
 use Rattle.gds_splice.proofs.EndingLemmas.{parting_ends, parting_exit}
 use Rattle.gds_splice.proofs.EntriesPutLemmas.{drafted_fields}

@@ -1,4 +1,4 @@
-use Rattle.std.proofs.Common.{◌≡◌, ◌+◌, List, ℕ, [], ap, sym, ◌∙◌, subst, arith}
+use Rattle.std.proofs.Common.{◌+◌, ap, sym, ◌∙◌, subst, arith}
 use Rattle.std.proofs.lemmas.Result.{on_ok_weaker}
 use Rattle.host_model.proofs.FailureLemmas.{NeverFell-refl}
 use Rattle.gds_draft.specs.Drafted.{drafted}
@@ -6,7 +6,7 @@ use Rattle.gds_header.specs.declared.header.Header.{Header}
 use Rattle.gds_pack.specs.Entry.{items}
 use Rattle.gds_pack.specs.Packable.{ArePackable}
 use Rattle.gds_pack.specs.Packed.{packed_size}
-use Rattle.gds_splice.specs.Parts.{FitInThree, above_parts}
+use Rattle.gds_splice.specs.Parts.{FitInThree}
 use Rattle.gds_splice.specs.Writing.{PutsEntries}
 use Rattle.gds_splice.specs.declared.parts.Parts.{Parts}
 use Rattle.gds_splice.proofs.DividedLemmas.{none_busy}
