@@ -1,0 +1,6 @@
+pub mod UpwardLemmas
+pub mod AlongLemmas
+pub mod KeptLemmas
+pub mod ContentLemmas
+pub mod SpliceLemmas
+pub mod VisitLemmas
