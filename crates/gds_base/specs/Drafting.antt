@@ -27,8 +27,8 @@ module _ {H : Type 0} (base : UnitsState H) where
 -- A call changed the draft alone: the base was only read, and of the draft's header no more than the free count and the
 -- master map are others. The draft has at most so many blocks that it hadn't.
 pub record OnlyDrafts {H : Type 0} (told : H → Option Contents) (moment : H → ℕ) (counts : H → Failures)
-    (left_since : H → ℕ → Contents → Type 0) (old new : UnitsState H) (before after : DraftState) (more : ℕ)
+    (left_since : H → ℕ → Contents → Type 0) (old new : UnitsState H) (before after : DraftState) (most : ℕ)
     : Type 0 where
   pub read : OnlyRead told moment counts left_since old new
   pub header : after.header ≡ record before.header { free = after.header.free; master = after.header.master }
-  pub more : length after.units ≤ length before.units + more
+  pub more : length after.units ≤ length before.units + most

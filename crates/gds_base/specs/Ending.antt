@@ -1,6 +1,9 @@
 -- How calls on a base end, and what each answer is blamed on.
-use Rattle.std.specs.Prelude.{Result, Ok, Err}
+use Rattle.std.specs.Prelude.{◌≡◌, ℕ, Option, None, Result, Ok, Err}
 use Rattle.host_model.specs.Failures.{Failures, Rose}
+use Rattle.host_model.specs.Files.{Contents}
+use Rattle.gds_units.specs.Reading.{OnlyRead}
+use Rattle.gds_units.specs.State.{UnitsState, image_of}
 use Rattle.gds_base.specs.declared.error.BaseError.{BaseError}
 use Rattle.gds_base.specs.declared.error.BaseError.TheVariants.{Changed, Memory, ReadFault}
 
@@ -12,3 +15,9 @@ EndsReading before now changed (Err Memory) = Unit {0}
 EndsReading before now changed (Err ReadFault) = Rose before.read now.read
 EndsReading before now changed (Err (Changed unit)) = changed
 EndsReading before now changed (Err _) = ⊥
+
+-- Once what a call lent is given back the base was only read, and the call ended so.
+pub record EndsLending {H T : Type 0} (told : H → Option Contents) (moment : H → ℕ) (counts : H → Failures)
+    (left_since : H → ℕ → Contents → Type 0) (old new : UnitsState H) (result : Result T BaseError) : Type 0 where
+  pub read : OnlyRead told moment counts left_since old new
+  pub ends : EndsReading (counts old.host) (counts new.host) (image_of old ≡ None) result

@@ -1,0 +1,91 @@
+-- Blocks of the image and of the image with a draft.
+use Rattle.std.proofs.Common.{◌≡◌, ℕ, ◌+◌, ◌<◌, ◌≤◌, ◌==◌, Bool, true, false, List, [], ◌∷◌, length, refl, sym, ap}
+use Rattle.std.proofs.Common.{subst, ◌∙◌, arith, replicate, None, Some}
+use Rattle.std.specs.Prelude.{All, if◌then◌else◌, nat_lt}
+use Rattle.std.proofs.lemmas.Bool.{cond-false, cond-true, eqb-true, le-ltb, lt-ltb}
+use Rattle.std.proofs.lemmas.List.Elements.{All-head, All-tail}
+use Rattle.std.proofs.lemmas.Nat.{row_fits}
+use Rattle.host_model.specs.Units.{IsUnit}
+use Rattle.gds_header.specs.declared.header.Header.{Header}
+use Rattle.gds_header.specs.Fields.{block_of, fields_of, zeros}
+use Rattle.gds_images.specs.Outcome.{IsWhole}
+use Rattle.gds_law.proofs.UnitLemmas.{length_at, place_at}
+use Rattle.gds_epoch.specs.Waiting.{WaitingUnit, waiting_bytes}
+use Rattle.gds_draft.specs.Draft.{DraftState, IsBlockOf, IsDraft, block_in}
+use Rattle.gds_draft.specs.Drafted.{drafted, or_block}
+use Rattle.gds_draft.specs.Laws.{IsDraftOf}
+use Rattle.gds_draft.proofs.DraftLemmas.{drafted_read}
+
+-- A block of a whole database is a unit of it.
+pub block_is_unit : (image : List ℕ) (h : Header) (n size : ℕ) → IsWhole image → fields_of image ≡ h → n < h.total
+    → size ≡ h.block_size → IsUnit image (n + 1) size
+block_is_unit image h n size whole fields low is =
+    let same : h.block_size ≡ (fields_of image).block_size = ap (λ (g : Header). g.block_size) (sym fields) in
+    record {
+      length_is = is ∙ same ∙ sym (length_at image n);
+      within = omega (
+        arith,
+        is,
+        place_at image n,
+        whole.len,
+        same,
+        ap (λ (g : Header). g.total) fields,
+        row_fits n (fields_of image).block_size (fields_of image).total (fields_of image).block_size
+            (omega (arith, low, ap (λ (g : Header). g.total) fields)) (omega arith),
+      );
+    }
+
+-- A block that a draft hasn't is the image's, or zero behind its end.
+pub below_end : (image : List ℕ) (h g : Header) (n : ℕ) (bytes : List ℕ) → fields_of image ≡ g → n < g.total
+    → bytes ≡ block_of image n → bytes ≡ or_block h image n None
+below_end image h g n bytes fields low is =
+    is
+    ∙ sym (cond-true (nat_lt n (fields_of image).total) _ _
+    (lt-ltb n (fields_of image).total (omega (arith, low, ap (λ (f : Header). f.total) fields))))
+
+pub behind_end : (image : List ℕ) (h g : Header) (n : ℕ) (bytes : List ℕ) → fields_of image ≡ g → g.total ≤ n
+    → bytes ≡ replicate h.block_size 0 → bytes ≡ or_block h image n None
+unfolding zeros
+behind_end image h g n bytes fields past is =
+    is
+    ∙ sym (cond-false (nat_lt n (fields_of image).total) _ _
+    (le-ltb n (fields_of image).total (omega (arith, past, ap (λ (f : Header). f.total) fields))))
+
+-- What holds of all units holds of one that is found.
+pub found_has : (P : WaitingUnit → Type 0) (units : List WaitingUnit) (unit : ℕ) (bytes : List ℕ) → All P units
+    → waiting_bytes units unit ≡ Some bytes → P (record { unit = unit; bytes = bytes })
+found_has P [] unit bytes all found = absurd (let no : None ≡ Some bytes = found in cc)
+found_has P (x ∷ units) unit bytes all found =
+    by (x.unit == unit) refl (found_has P units unit bytes (All-tail P x units all))
+  where
+    by : (t : Bool) → (x.unit == unit) ≡ t
+        → (waiting_bytes units unit ≡ Some bytes → P (record { unit = unit; bytes = bytes }))
+        → P (record { unit = unit; bytes = bytes })
+    by true same others =
+        let own : Some x.bytes ≡ Some bytes = sym (cond-true (x.unit == unit) _ _ same) ∙ found in
+        let is : x.bytes ≡ bytes = cc in
+        subst (λ k. P (record { unit = k; bytes = bytes })) (eqb-true x.unit unit same)
+        (subst (λ xs. P (record { unit = x.unit; bytes = xs })) is (All-head P x units all))
+    by false other others = others (sym (cond-false (x.unit == unit) _ _ other) ∙ found)
+
+module _ (image : List ℕ) (draft : DraftState) (is : IsDraftOf image draft) (n : ℕ) (low : n < draft.header.total)
+  where
+    -- The block of the image with the draft that the draft has.
+    pub block_drafted : (bytes : List ℕ) → block_in draft n ≡ Some bytes → block_of (drafted draft image) n ≡ bytes
+    block_drafted bytes has =
+        let read = drafted_read image draft is in
+        read.blocks n low ∙ ap (or_block draft.header image n) has
+
+    -- The one that it hasn't.
+    pub block_not_drafted : (h : Header) → draft.header.block_size ≡ h.block_size → block_in draft n ≡ None
+        → block_of (drafted draft image) n ≡ or_block h image n None
+    block_not_drafted h size none =
+        let read = drafted_read image draft is in
+        read.blocks n low ∙ ap (or_block draft.header image n) none
+        ∙ ap (λ k. if nat_lt n (fields_of image).total then block_of image n else zeros k) size
+
+-- A block that a draft has is as long as each of its blocks.
+pub length_drafted : (draft : DraftState) (n : ℕ) (bytes : List ℕ) → IsDraft draft → block_in draft n ≡ Some bytes
+    → length bytes ≡ draft.header.block_size
+length_drafted draft n bytes is has =
+    let one = found_has (IsBlockOf draft.header) draft.units (n + 1) bytes is.blocks has in one.size
