@@ -2,6 +2,7 @@
 #![tactic(auto)]
 
 mod base;
+mod calls;
 mod error;
 mod reading;
 mod spaces;
