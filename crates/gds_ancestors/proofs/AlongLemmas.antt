@@ -9,16 +9,15 @@ use Rattle.gds_law.proofs.MembershipLemmas.{IsIn}
 use Rattle.gds_pack.specs.Packed.{record_size, records_size, packed_size}
 use Rattle.gds_sound.specs.Sound.{Tree, joined, sound_tree}
 use Rattle.gds_sound.proofs.TreeLemmas.{leads_through}
-use Rattle.gds_tree.specs.Lawful.{IsLawfulEntry}
 use Rattle.gds_tree.specs.Below.{visit_below, index_children, low_behind, trees_below, HasEntries, index_tree}
+use Rattle.gds_tree.specs.Around.{around}
 use Rattle.gds_tree.specs.Keeps.{IsImage}
-use Rattle.gds_tree.proofs.BelowLemmas.{all_right, both_parts, below_append, joined_assoc}
+use Rattle.gds_tree.proofs.BelowLemmas.{both_parts, below_append, joined_assoc}
 use Rattle.gds_tree.proofs.ImageLemmas.{has_children}
-use Rattle.gds_tree.proofs.KeepLemmas.{pointers}
-use Rattle.gds_tree.proofs.PartLemmas.{lawful_index}
-use Rattle.gds_tree.proofs.TreeByLemmas.{IndexBy, by_index}
+use Rattle.gds_tree.proofs.TreeByLemmas.{by_index}
 use Rattle.gds_ancestors.specs.Ancestors.{Ancestor, tree_with, whole_with, steps_to, IsAncestor, AreAncestors}
 use Rattle.gds_ancestors.specs.Ancestors.{HasAncestors}
+use Rattle.gds_ancestors.proofs.VisitLemmas.{number_below}
 
 -- ---- the entry to which a child of an index block belongs
 
@@ -53,6 +52,40 @@ entry_of v level at previous low (f ∷ es) c (inr i) =
       offset = omega (arith, r.offset);
     }
 
+-- ---- an entry that leads down
+
+-- What stands below the entries of an index block, in parts: below those before the one that leads down, below that
+-- one, and below those behind.
+record LeadsDown (image : List ℕ) (v : Visit) (level : ℕ) (front : List Item) (entry : Item) (back : List Item)
+    (below : Tree) : Type 0 where
+  left : Tree
+  inner : Tree
+  right : Tree
+  is : IsAncestor image
+      (record { visit = v; front = front; entry = entry; back = back; left = left; right = right })
+      (visit_below v level (low_behind v.low front) entry) level
+  sound : sound_tree image level (visit_below v level (low_behind v.low front) entry) ≡ Some inner
+  whole : below ≡ around left inner right
+
+leads_down : (image : List ℕ) (v : Visit) (level : ℕ) (front : List Item) (entry : Item) (back : List Item)
+    (below : Tree) → HasEntries image v (suc level) (front ++ entry ∷ back)
+    → trees_below image v level v.low (front ++ entry ∷ back) ≡ Some below
+    → LeadsDown image v level front entry back below
+leads_down image v level front entry back below has h =
+    let c : Visit = visit_below v level (low_behind v.low front) entry in
+    let p = both_parts (trees_below image v level v.low front)
+    (trees_below image v level (low_behind v.low front) (entry ∷ back)) below
+    (sym (below_append image v level v.low front (entry ∷ back)) ∙ h) in
+    let q = both_parts (sound_tree image level c) (trees_below image v level (Some entry.key) back) p.second p.later in
+    record {
+      left = p.first;
+      inner = q.first;
+      right = q.second;
+      is = record { has = has; leads = refl; left = p.here; right = q.later };
+      sound = q.here;
+      whole = p.is ∙ ap (joined p.first) q.is ∙ sym (joined_assoc p.first q.first q.second);
+    }
+
 -- ---- a step down
 
 -- A step leads from a visit to one below it, from which the others lead on.
@@ -67,7 +100,6 @@ record StepsDown (image : List ℕ) (v : Visit) (level : ℕ) (step : ℕ × ℕ
   whole : t ≡ tree_with ancestor inner
   taken : (ancestor.visit.block, packed_size ancestor.front) ≡ step
   rest : visit_from image next steps ≡ Some w
-  within : next.block < (fields_of image).total
 
 module _ (image : List ℕ) (i : IsImage image) where
   step_down : (v : Visit) (level block offset : ℕ) (steps : Steps) (w : Visit) (t : Tree)
@@ -78,38 +110,26 @@ module _ (image : List ℕ) (i : IsImage image) where
       let l = leads_through image v block offset steps w leads in
       let k = entry_of v level 16 [] v.low x.es l.child
       (subst (λ cs. IsIn cs l.child) (has_children image v (suc level) x.es i x.has) l.there) in
-      let c : Visit = visit_below v level (low_behind v.low k.front) k.entry in
-      let has : HasEntries image v (suc level) (k.front ++ k.entry ∷ k.back) =
-      subst (HasEntries image v (suc level)) k.whole x.has in
-      let lawful = lawful_index image v (suc level) (k.front ++ k.entry ∷ k.back) has in
-      let pointer = pointers (fields_of image) v v.role level k.entry.rest
-      (all_right (IsLawfulEntry (fields_of image) v (suc level)) k.front (k.entry ∷ k.back) lawful).0.rest in
-      let p = both_parts (trees_below image v level v.low k.front)
-      (trees_below image v level (low_behind v.low k.front) (k.entry ∷ k.back)) x.below
-      (sym (below_append image v level v.low k.front (k.entry ∷ k.back))
-      ∙ ap (trees_below image v level v.low) (sym k.whole) ∙ x.trees) in
-      let q = both_parts (sound_tree image level c) (trees_below image v level (Some k.entry.key) k.back) p.second
-      p.later in
-      let a : Ancestor = record {
-        visit = v;
-        front = k.front;
-        entry = k.entry;
-        back = k.back;
-        left = p.first;
-        right = q.second;
-      } in
+      let d = leads_down image v level k.front k.entry k.back x.below
+      (subst (HasEntries image v (suc level)) k.whole x.has)
+      (ap (trees_below image v level v.low) (sym k.whole) ∙ x.trees) in
       record {
-        ancestor = a;
-        next = c;
-        inner = q.first;
+        ancestor = record {
+          visit = v;
+          front = k.front;
+          entry = k.entry;
+          back = k.back;
+          left = d.left;
+          right = d.right;
+        };
+        next = visit_below v level (low_behind v.low k.front) k.entry;
+        inner = d.inner;
         here = refl;
-        is = record { has = has; leads = refl; left = p.here; right = q.later };
-        sound = q.here;
-        whole = x.is ∙ ap (index_tree v) (p.is ∙ ap (joined p.first) q.is
-            ∙ sym (joined_assoc p.first q.first q.second));
+        is = d.is;
+        sound = d.sound;
+        whole = x.is ∙ ap (index_tree v) d.whole;
         taken = λ j. (sym l.own j, (sym k.offset ∙ l.at) j);
         rest = ap (λ u. visit_from image u steps) k.leads ∙ l.rest;
-        within = pointer.leads.within;
       }
 
   -- ---- a path
@@ -138,7 +158,7 @@ module _ (image : List ℕ) (i : IsImage image) where
         d.is,
         subst (AreAncestors image root above d.ancestor.visit) up
             (subst (λ u. AreAncestors image root above u n) d.here lead),
-      ) d.within d.rest d.sound in
+      ) (number_below image d.ancestor d.next m d.is).within d.rest d.sound in
       record {
         ancestors = r.ancestors;
         inner = r.inner;

@@ -1,5 +1,5 @@
 -- What the tree over ancestors has: its items in order, and its blocks.
-use Rattle.std.proofs.Common.{◌≡◌, ℕ, List, [], ◌∷◌, ◌++◌, ◌||◌, ◌↔◌, refl, sym, ap, subst, ◌∙◌, append_assoc, append-nil}
+use Rattle.std.proofs.Common.{◌≡◌, ℕ, List, [], ◌∷◌, ◌++◌, ◌||◌, ◌↔◌, sym, ap, subst, ◌∙◌, append_assoc, append-nil}
 use Rattle.std.specs.Prelude.{nat_eq}
 use Rattle.std.specs.List.{IsDistinct, list_any}
 use Rattle.std.specs.List.Sorted.{IsPermutation}
@@ -10,7 +10,6 @@ use Rattle.std.proofs.lemmas.List.Sorted.{IsPermutation-refl, IsPermutation-tran
 use Rattle.std.proofs.lemmas.List.Sorted.{IsPermutation-cons, IsPermutation-append_comm, IsPermutation-append_right}
 use Rattle.std.proofs.lemmas.List.Sorted.{list_any-IsPermutation}
 use Rattle.std.proofs.lemmas.Map.Keys.{IsDistinct-IsPermutation}
-use Rattle.gds_block.specs.Item.{Item}
 use Rattle.gds_sound.specs.Sound.{Tree}
 use Rattle.gds_ancestors.specs.Ancestors.{Ancestor, tree_with, whole_with, outer_blocks, items_before, items_behind}
 
@@ -63,7 +62,8 @@ whole_has above inner n =
 
 eq_flips : (x y : ℕ) → nat_eq x y ≡ nat_eq y x
 eq_flips x y =
-    both_ways (nat_eq x y) (nat_eq y x) (λ e. eq-eqb y x (sym (eqb-true x y e))) (λ e. eq-eqb x y (sym (eqb-true y x e)))
+    both_ways (nat_eq x y) (nat_eq y x) (λ e. eq-eqb y x (sym (eqb-true x y e)))
+    (λ e. eq-eqb x y (sym (eqb-true y x e)))
 
 pub whole_distinct : (above : List Ancestor) (inner : Tree)
     → IsDistinct nat_eq (whole_with above inner).blocks ↔ IsDistinct nat_eq (outer_blocks above ++ inner.blocks)

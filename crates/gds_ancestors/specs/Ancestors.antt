@@ -9,8 +9,8 @@ use Rattle.gds_sound.specs.Sound.{Tree, sound_tree}
 use Rattle.gds_tree.specs.Below.{visit_below, low_behind, trees_below, HasEntries, index_tree}
 use Rattle.gds_tree.specs.Around.{around}
 
--- An index block on the way down to another: its visit, the entry that leads down, the entries before it and those
--- behind it, and the trees that stand below these.
+-- An index block on the way down to another: its visit; its entries before the one that leads down, that one, and those
+-- behind; and the trees that stand below those before and below those behind.
 pub record Ancestor : Type 0 where
   pub visit : Visit
   pub front : List Item
@@ -57,7 +57,8 @@ pub record IsAncestor (image : List ℕ) (a : Ancestor) (w : Visit) (level : ℕ
 -- These ancestors lead from a root down to a visit of a level.
 abbrev pub AreAncestors : List ℕ → Visit → List Ancestor → Visit → ℕ → Type 0
 AreAncestors image root [] w level = w ≡ root
-AreAncestors image root (a ∷ above) w level = IsAncestor image a w level × AreAncestors image root above a.visit (suc level)
+AreAncestors image root (a ∷ above) w level =
+    IsAncestor image a w level × AreAncestors image root above a.visit (suc level)
 
 -- The ancestors of the visit of a level to which a path leads from a root with a tree, and the tree that stands there.
 pub record HasAncestors (image : List ℕ) (root : Visit) (path : Steps) (w : Visit) (level : ℕ) (t : Tree) : Type 0 where

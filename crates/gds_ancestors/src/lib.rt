@@ -5,6 +5,6 @@
 mod laws;
 
 pub use laws::{
-    ancestors_kept, ancestors_of_path, spliced_block, tree_of_ancestors, visit_of_ancestors,
-    whole_content,
+    ancestors_kept, ancestors_of_path, spliced_block, starred_entry, steps_of_ancestors,
+    tree_of_ancestors, visit_of_ancestors, whole_content,
 };

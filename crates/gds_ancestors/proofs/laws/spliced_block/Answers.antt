@@ -1,9 +1,11 @@
-use Rattle.gds_ancestors.proofs.SpliceLemmas.{of_three, spliced}
+use Rattle.gds_ancestors.proofs.SpliceLemmas.{three_parts, spliced, spliced_sound}
 use Rattle.gds_ancestors.proofs.laws.spliced_block.Goals as goal
 
-pub returns-clause-three : goal.returns-clause-three
-returns-clause-three c = of_three
+pub returns-clause-parts : goal.returns-clause-parts
+returns-clause-parts c = three_parts
 
-pub returns-clause-spliced : goal.returns-clause-spliced
-returns-clause-spliced c = λ old new w level a taken put b before middle behind i j had has higher first second third.
-    spliced old new w level a taken put b behind i j had has higher third before middle first second
+pub returns-clause-trees : goal.returns-clause-trees
+returns-clause-trees c = spliced
+
+pub returns-clause-sound : goal.returns-clause-sound
+returns-clause-sound c = spliced_sound
