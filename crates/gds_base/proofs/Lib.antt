@@ -1,2 +1,6 @@
+pub mod GroupLemmas
+pub mod PlaceLemmas
+pub mod MapLemmas
 pub mod ReadingLemmas
 pub mod PutLemmas
+pub mod PlanLemmas

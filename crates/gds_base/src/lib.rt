@@ -4,6 +4,8 @@
 mod base;
 mod calls;
 mod error;
+mod groups;
+mod plan;
 mod reading;
 mod spaces;
 

@@ -1,0 +1,6 @@
+pub mod Parted
+pub mod PartLaws
+pub mod Parts
+pub mod Parting
+pub mod Writing
+pub mod Ending

@@ -1,0 +1,45 @@
+-- The blocks that a block has gone into, and the entries above that lead to them.
+use Rattle.std.specs.Prelude.{◌≡◌, ◌≢◌, ◌≤◌, ℕ, List, [], ◌∷◌, ◌++◌, map, take, drop}
+use Rattle.gds_block.specs.Item.{Item}
+use Rattle.gds_law.specs.Path.{Steps}
+use Rattle.gds_pack.specs.Packed.{packed_size}
+use Rattle.gds_split.specs.Pieces.{Piece, entry_to}
+use Rattle.gds_splice.specs.declared.parts.Part.{Part}
+use Rattle.gds_splice.specs.declared.parts.Parts.{Parts}
+use Rattle.gds_splice.specs.declared.parts.Step.{Step}
+
+-- steps as a path has them
+abbrev pub steps_of : List Step → Steps
+steps_of steps = map (λ s. (s.block, s.offset)) steps
+
+-- the entry above that leads to a part
+abbrev pub part_entry : Part → Item
+part_entry p = entry_to p.block p.key.items
+
+-- the entries above that lead to the parts, of which the last has a key of the block above
+abbrev pub above_parts : Parts → List ℕ → List Item
+above_parts parts key = map part_entry parts.parted.items ++ entry_to parts.last key ∷ []
+
+-- the pieces that entries go into by the lengths of all runs but the last and by the numbers of the blocks
+abbrev pub pieces_of : List ℕ → List ℕ → List Item → List Piece
+pieces_of lengths [] entries = []
+pieces_of [] (n ∷ numbers) entries = record { number = n; entries = entries } ∷ []
+pieces_of (k ∷ lengths) (n ∷ numbers) entries =
+    record { number = n; entries = take k entries } ∷ pieces_of lengths numbers (drop k entries)
+
+-- In runs of these lengths and a last one the entries fit a block of so many bytes each, and no run is empty.
+abbrev pub FitInRuns : ℕ → List ℕ → List Item → Type 0
+FitInRuns limit [] entries = (entries ≢ []) × (packed_size entries ≤ limit)
+FitInRuns limit (k ∷ lengths) entries =
+    (take k entries ≢ []) × (packed_size (take k entries) ≤ limit) × FitInRuns limit lengths (drop k entries)
+
+-- Entries come in three parts that fit a block of so many bytes each.
+pub record FitInThree (limit : ℕ) (entries : List Item) : Type 0 where
+  pub front : List Item
+  pub middle : List Item
+  pub back : List Item
+  pub whole : entries ≡ front ++ middle ++ back
+  pub some : entries ≢ []
+  pub front_fits : packed_size front ≤ limit
+  pub middle_fits : packed_size middle ≤ limit
+  pub back_fits : packed_size back ≤ limit
