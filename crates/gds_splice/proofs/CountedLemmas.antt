@@ -1,11 +1,11 @@
 -- Which blocks are among others, by how often they stand there.
-use Rattle.std.proofs.Common.{◌≡◌, ℕ, true, false, List, [], ◌∷◌, inl, inr, refl, sym}
+use Rattle.std.proofs.Common.{◌≡◌, ℕ, true, false, List, [], ◌∷◌, ◌++◌, inl, inr, refl, sym}
 use Rattle.std.proofs.Common.{subst, ◌∙◌, arith}
 use Rattle.std.specs.Prelude.{nat_eq, IsTrue}
 use Rattle.std.specs.Cmp.{both_ways}
 use Rattle.std.specs.List.{AllByRecursion, IsDistinct}
 use Rattle.std.proofs.lemmas.Bool.{or_left, or_right, or_cases, or_parts, eq-eqb, eqb-true, eqb-false, ne_eqb, false_from_ne_true, cases_lt}
-use Rattle.gds_sound.proofs.CountLemmas.{count}
+use Rattle.gds_sound.proofs.CountLemmas.{count, count_append}
 use Rattle.gds_sound.proofs.PathLemmas.{any_counted, counted_any, counts_from_distinct, distinct_from_counts}
 use Rattle.gds_file.specs.Maps.{has_block}
 
@@ -68,3 +68,16 @@ unfolding IsDistinct
 others_differ x xs n once there =
     let other = at_has (λ y. nat_eq x y ≡ false) xs n once.0 there in
     ne_eqb n x (λ e. eqb-false x n other (sym e))
+
+-- Two lists of distinct blocks that have none in common.
+pub distinct_apart : (a b : List ℕ) → IsDistinct nat_eq a → IsDistinct nat_eq b
+    → ((n : ℕ) → IsTrue (has_block b n) → has_block a n ≡ false) → IsDistinct nat_eq (a ++ b)
+distinct_apart a b first second apart = distinct_from_counts (a ++ b) (λ n. elim (cases_lt 0 (count n b)) [
+  | inl some ↦ omega (
+    arith,
+    count_append n a b,
+    counted_none a n (apart n (counted_any n b some)),
+    counts_from_distinct b second n,
+  )
+  | inr few ↦ omega (arith, few, count_append n a b, counts_from_distinct a first n)
+])

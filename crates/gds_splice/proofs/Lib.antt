@@ -5,3 +5,6 @@ pub mod MayLemmas
 pub mod StaysLemmas
 pub mod PackableLemmas
 pub mod RunLemmas
+pub mod WritingLemmas
+pub mod PieceLemmas
+pub mod AncestorLemmas

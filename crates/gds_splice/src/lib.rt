@@ -8,7 +8,10 @@ mod parting;
 mod parts;
 mod sizes;
 
-pub use laws::{block_stays_one, taken_blocks};
+pub use laws::{
+    ancestor_may_part, block_goes_into_pieces, block_stays_one, pieces_are_there, taken_blocks,
+    tree_becomes,
+};
 pub use node::{Node, read_node};
 pub use packable::is_packable;
 pub use parting::part;
