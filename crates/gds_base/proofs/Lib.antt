@@ -4,3 +4,5 @@ pub mod MapLemmas
 pub mod ReadingLemmas
 pub mod PutLemmas
 pub mod PlanLemmas
+pub mod CommitLemmas
+pub mod RoomLemmas

@@ -115,8 +115,8 @@ module _ (h : Header) (draft : DraftState) (plan : List WaitingUnit) (planned : 
   pub after : header_after h plan ≡ next
   after = ap (header_after h) planned.units_are ∙ planned.again
 
-  inside : All (λ (w : WaitingUnit). w.unit ≤ (header_after h plan).total) plan
-  inside =
+  pub numbers : All (λ (w : WaitingUnit). w.unit ≤ (header_after h plan).total) plan
+  numbers =
       let total : draft.header.total ≡ (header_after h plan).total = ap (λ (g : Header). g.total) (sym after) in
       of_each (λ w. w.unit ≤ (header_after h plan).total) (omega arith)
       (λ w block. omega (arith, block.to, total))
@@ -159,7 +159,7 @@ module _ (h : Header) (draft : DraftState) (plan : List WaitingUnit) (planned : 
   may_be_carried_out extent long = record {
     distinct = λ i j d less within same. omega (arith, rising i j d less within, same);
     sizes = sizes;
-    inside = inside;
+    inside = numbers;
     readable = readable;
     block_size = ap (λ (g : Header). g.block_size) after ∙ fits.block_size;
     grown =

@@ -6,3 +6,4 @@ pub mod Put
 pub mod Errors
 pub mod Held
 pub mod Commit
+pub mod Room

@@ -3,6 +3,7 @@
 
 mod base;
 mod calls;
+mod commit;
 mod error;
 mod groups;
 mod plan;

@@ -1,0 +1,4 @@
+mod TurningLemmas
+mod WayLemmas
+mod FindLemmas
+mod TrailLemmas

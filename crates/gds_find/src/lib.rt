@@ -1,0 +1,9 @@
+//! The way from a root of a tree down to the level-0 block in whose bounds a key lies.
+#![tactic(auto)]
+
+mod finding;
+mod trail;
+mod turning;
+
+pub use finding::find;
+pub use trail::{Step, Trail};
