@@ -8,3 +8,5 @@ pub mod RunLemmas
 pub mod WritingLemmas
 pub mod PieceLemmas
 pub mod AncestorLemmas
+pub mod RaisedLemmas
+pub mod LeafLemmas

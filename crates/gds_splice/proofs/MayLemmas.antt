@@ -11,7 +11,7 @@ use Rattle.gds_law.specs.Visit.{Visit}
 use Rattle.gds_sound.specs.Sound.{Tree, sound_tree}
 use Rattle.gds_tree.specs.Below.{HasEntries, index_tree}
 use Rattle.gds_tree.specs.Keeps.{IsImage, KeepsBlocks}
-use Rattle.gds_tree.specs.Lawful.{IsTreeNumber, IsLawfulEntry}
+use Rattle.gds_tree.specs.Lawful.{IsTreeNumber}
 use Rattle.gds_tree.specs.Lawful as entries
 use Rattle.gds_tree.proofs.BelowLemmas.{all_both}
 use Rattle.gds_tree.proofs.KeepLemmas.{lawful_kept, same_limits}
@@ -61,7 +61,8 @@ module _ (file : List ℕ) (root : Visit) (above : List Ancestor) (v : Visit) (l
 kept_by : (old new xs : List ℕ) → ((n : ℕ) → IsTrue (has_block xs n) → block_of new n ≡ block_of old n)
     → KeepsBlocks old new xs
 kept_by old new xs same =
-    All-from_recursion (λ n. block_of new n ≡ block_of old n) xs (all_has (λ n. block_of new n ≡ block_of old n) xs same)
+    All-from_recursion (λ n. block_of new n ≡ block_of old n) xs
+    (all_has (λ n. block_of new n ≡ block_of old n) xs same)
 
 pub record Stays (file : List ℕ) (root : Visit) (above : List Ancestor) (v : Visit) (level : ℕ) (es : List Item)
     (below : Tree) : Type 0 where

@@ -1,13 +1,13 @@
 -- A block of a tree with other entries, and what comes of it: it stays one block, or goes into pieces before the index
 -- block above it tells of them.
-use Rattle.std.specs.Prelude.{◌≡◌, ◌≢◌, ℕ, zero, suc, ◌+◌, ◌*◌, ◌-◌, ◌%◌, ◌≤◌, nat_eq, IsTrue, false, All, List, []}
-use Rattle.std.specs.Prelude.{◌∷◌, ◌++◌, length, None, Some}
+use Rattle.std.specs.Prelude.{◌≡◌, ◌≢◌, ℕ, zero, suc, ◌+◌, ◌*◌, ◌^◌, ◌-◌, ◌%◌, ◌<◌, ◌≤◌, nat_eq, IsTrue, false, All}
+use Rattle.std.specs.Prelude.{List, [], ◌∷◌, ◌++◌, length, None, Some}
 use Rattle.std.specs.List.{IsDistinct}
 use Rattle.gds_block.specs.Item.{Item}
 use Rattle.gds_header.specs.Fields.{fields_of, block_of}
 use Rattle.gds_header.specs.declared.header.Header.{Header}
 use Rattle.gds_law.specs.Visit.{Visit}
-use Rattle.gds_pack.specs.Packed.{packed_size}
+use Rattle.gds_pack.specs.Packed.{block_bytes, packed_size}
 use Rattle.gds_sound.specs.Sound.{Tree}
 use Rattle.gds_tree.specs.Below.{low_behind, trees_below}
 use Rattle.gds_tree.specs.Lawful.{IsTreeNumber}
@@ -19,7 +19,7 @@ use Rattle.gds_file.specs.Reshape.{Reshapes}
 use Rattle.gds_file.specs.Rewrite.{Rewrites, AreAllBusy}
 use Rattle.gds_file.specs.Take.{Takes}
 use Rattle.gds_file.specs.TakeLaws.{IsFree}
-use Rattle.gds_split.specs.Pieces.{Piece, GoInto, IsWritten, HasPieceTrees, numbers_of}
+use Rattle.gds_split.specs.Pieces.{AreInAnyOrder, Piece, GoInto, IsWritten, HasPieceTrees, numbers_of}
 use Rattle.gds_ancestors.specs.Ancestors.{Ancestor, AreAncestors, items_before, items_behind, outer_blocks}
 
 -- ---- a tree that changes
@@ -65,6 +65,21 @@ pub record MayPart (file : List ℕ) (root : Visit) (above : List Ancestor) (v :
   pub busy : AreAllBusy file (part_blocks above v below)
   pub maps : IsLawful file
 
+-- The entries themselves are the items of a level-0 block, and its tree has no other blocks than that one and the outer
+-- ones.
+pub record LeafParts (file : List ℕ) (root : Visit) (above : List Ancestor) (v : Visit) (es : List Item)
+    (blocks : List ℕ) : Type 0 where
+  pub may : MayPart file root above v 0 es (record { blocks = []; items = es })
+  pub order : AreInAnyOrder (part_blocks above v (record { blocks = []; items = es })) blocks
+
+-- A block has these entries, packed, and a transaction number of the past.
+pub record IsPackedAt (file : List ℕ) (n level : ℕ) (es : List Item) : Type 0 where
+  pub tn : ℕ
+  pub bytes : block_of file n ≡ block_bytes es level tn (fields_of file).block_size
+  pub fits : packed_size es ≤ (fields_of file).block_size
+  pub past : tn < (fields_of file).tn
+  pub small : tn < 2 ^ 64
+
 -- ---- free blocks
 
 -- These free blocks were taken, one after another.
@@ -97,9 +112,9 @@ pub record WritesPieces (before after : List ℕ) (fresh : List ℕ) (level : �
   pub rewrites : Rewrites mid after (numbers_of pieces)
   pub each : All (IsWritten after level) pieces
 
--- The child of an index block has gone into pieces: lawful entries of its visit are in them, and below the entries that
--- lead to them stand sound trees with what these entries had below. The index block doesn't tell of them yet: it leads
--- to the child as ever, and with the entry to the child above it stands all of the tree but what is below that entry.
+-- The child of an index block has gone into pieces: they have entries that are lawful at its visit, and sound trees
+-- stand below the entries that lead to them, with the items that stood below the child. The index block doesn't tell of
+-- them yet and leads to the child as ever. No block of the tree with the pieces is there twice, and all are busy.
 pub record IsParted (file : List ℕ) (root : Visit) (a : Ancestor) (above : List Ancestor) (child : Visit) (level : ℕ)
     (pieces : List Piece) (below : Tree) : Type 0 where
   pub is_root : IsRoot file root

@@ -1,5 +1,6 @@
 ghost use Rattle.gds_splice.specs.PartLaws.{AllAreTaken, AncestorBecomes, AncestorMayPart, BecomesBehind};
-ghost use Rattle.gds_splice.specs.PartLaws.{GoesIntoPieces, PartedHasRoom, PiecesAreThere, StaysOne};
+ghost use Rattle.gds_splice.specs.PartLaws.{BecomesInAnyOrder, BlockIsThere, GoesIntoPieces, LeafMayPart};
+ghost use Rattle.gds_splice.specs.PartLaws.{PartedHasRoom, PiecesAreThere, RaisedRootIsThere, RootIsRaised, StaysOne};
 
 /// Free blocks that are taken one after another: they are distinct and busy then, and the file stays lawful.
 pub fn taken_blocks()
@@ -11,9 +12,15 @@ pub fn pieces_are_there()
     ensures { PiecesAreThere }
 {}
 
+/// A level-0 block of a tree may get other lawful entries.
+pub fn leaf_may_part()
+    ensures { LeafMayPart }
+{}
+
 /// Where a block stays one and is written with the entries, the tree of the root is sound with them.
 pub fn block_stays_one()
-    ensures { StaysOne }
+    ensures sound { StaysOne }
+    ensures there { BlockIsThere }
 {}
 
 /// Where it goes into pieces, the first with its number and the others in free blocks, it leaves it to the index block
@@ -30,7 +37,16 @@ pub fn ancestor_may_part()
     ensures room { PartedHasRoom }
 {}
 
-/// A tree that comes of a change of blocks comes of the change before it and that one.
+/// Where a root goes into pieces, all of them in free blocks, and gets the entries that lead to them, its tree is sound
+/// and one level higher.
+pub fn root_is_raised()
+    ensures sound { RootIsRaised }
+    ensures there { RaisedRootIsThere }
+{}
+
+/// A tree that comes of a change of blocks comes of the change before it and that one, and of the same old blocks in
+/// another order.
 pub fn tree_becomes()
-    ensures { BecomesBehind }
+    ensures behind { BecomesBehind }
+    ensures order { BecomesInAnyOrder }
 {}

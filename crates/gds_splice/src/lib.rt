@@ -9,8 +9,8 @@ mod parts;
 mod sizes;
 
 pub use laws::{
-    ancestor_may_part, block_goes_into_pieces, block_stays_one, pieces_are_there, taken_blocks,
-    tree_becomes,
+    ancestor_may_part, block_goes_into_pieces, block_stays_one, leaf_may_part, pieces_are_there,
+    root_is_raised, taken_blocks, tree_becomes,
 };
 pub use node::{Node, read_node};
 pub use packable::is_packable;
