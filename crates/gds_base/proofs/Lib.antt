@@ -6,3 +6,7 @@ pub mod PutLemmas
 pub mod PlanLemmas
 pub mod CommitLemmas
 pub mod RoomLemmas
+pub mod MomentLemmas
+pub mod CommittedLemmas
+pub mod FreeingLemmas
+pub mod FindsLemmas

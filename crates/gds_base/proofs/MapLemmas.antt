@@ -58,6 +58,9 @@ module _ (image : List ℕ) (draft : DraftState) (group : ℕ) (map : List ℕ) 
   old_fields : fields_of before ≡ draft.header
   old_fields = (drafted_read image draft is).fields
 
+  pub fields_now : fields_of after ≡ h
+  fields_now = got.fields
+
   map_now : map_of after group ≡ map
   map_now = got.same_total total_same (512 * group) ∙ put.block
 

@@ -1,6 +1,8 @@
 //! The groups of a file: which has a free block, and how many blocks it has.
-ghost use Rattle.std.specs.Prelude.{◌≡◌, ◌*◌, ◌-◌, ◌<◌, ◌≤◌, ℕ, All, IfNone, IfSome, length, min, slice_index};
+ghost use Rattle.std.specs.Prelude.{◌≡◌, ◌+◌, ◌*◌, ◌-◌, ◌^◌, ◌<◌, ◌≤◌, ℕ, All, IfNone, IfSome, length, min};
+ghost use Rattle.std.specs.Prelude.{if◌then◌else◌, slice_index};
 ghost use Rattle.gds_bitmap.specs.Bitmap.{IsFirstFree, Marks, NoneFree};
+ghost use Rattle.gds_bitmap.specs.State.{is_free};
 ghost use Rattle.gds_header.specs.Kinds.{IsWithinLimits};
 ghost use Rattle.gds_base.specs.Spaces.{HasFreeBelow, IsFirstGroup, NoGroup};
 
@@ -34,6 +36,17 @@ pub(crate) fn present_in(header: &Header, group: u32) -> u32
     ensures { result ≡ min (header.now.total - 512 * group) 512 }
 {
     (header.total - 512 * group).min(512)
+}
+
+/// How many blocks are free once one in this state is, if a header can say so many.
+pub(crate) fn free_with(header: &Header, state: State) -> Option<u32>
+    ensures some { IfSome result (λ n. n ≡ header.now.free + (if is_free state then 0 else 1)) }
+    ensures none { IfNone result (2 ^ 32 ≤ header.now.free + 1) }
+{
+    match state {
+        State::New | State::Recycled => Some(header.free),
+        State::Busy | State::Illegal => header.free.checked_add(1),
+    }
 }
 
 /// Gives a place of a map another state, and answers whether one of the places that are present is free then.

@@ -6,9 +6,11 @@ mod calls;
 mod commit;
 mod error;
 mod groups;
+mod laws;
 mod plan;
 mod reading;
 mod spaces;
 
 pub use base::Base;
 pub use error::BaseError;
+pub use laws::finds;

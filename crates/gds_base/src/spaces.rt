@@ -1,15 +1,15 @@
 ghost use Rattle.std.specs.Prelude.{◌≡◌, ◌≢◌, ◌*◌, ◌+◌, ◌<◌, ◌%◌, IfOk, OnErr, OnOk, length};
 ghost use Rattle.gds_base.specs.Drafting.{Drafts, IsDraftFor, OnlyDrafts, WithDraft};
 ghost use Rattle.gds_base.specs.Ending.{EndsReading};
-ghost use Rattle.gds_base.specs.Spaces.{IsFirstPlace, TakesLeast};
+ghost use Rattle.gds_base.specs.Spaces.{IsFirstPlace, Recycles, TakesLeast};
 ghost use Rattle.gds_draft.specs.Draft.{IsDraft, with_block};
 ghost use Rattle.gds_file.specs.FileLaws.{IsLawful};
 ghost use Rattle.gds_law.specs.Maps.{map_of};
 ghost use Rattle.gds_units.specs.Reading.{OnlyRead};
 
-use crate::groups::{first_group, mark_in, present_in};
+use crate::groups::{first_group, free_with, mark_in, present_in};
 use crate::{Base, BaseError};
-use gds_bitmap::{State, first_free};
+use gds_bitmap::{State, first_free, mark, state_of};
 use gds_draft::Draft;
 use gds_header::Header;
 use host_model::Host;
@@ -49,6 +49,32 @@ impl<H: Host> Base<H> {
         header.mark_group(group, left);
         put_map(draft, &header, group, map)?;
         Ok(512 * group + place)
+    }
+
+    /// Gives a block that is no map back to the free ones: it is a used one that is free in the draft afterwards.
+    ///
+    /// `Changed` comes only where the free count isn't lawful.
+    pub fn free_block(&mut self, alloc: Global, draft: &mut Draft, n: u32) -> Result<(), BaseError>
+        requires draft { IsDraftFor self.old.header draft.old }
+        requires there { n < draft.old.header.total }
+        requires no_map { n % 512 ≢ 0 }
+        ensures freed { OnOk result (Drafts self.old draft.old draft.new (λ before after. Recycles before after n)) }
+        ensures drafts { OnlyDrafts H.told H.moment H.failures H.left_since self.old self.new draft.old draft.new 1 }
+        ensures ends { EndsReading (H.failures self.old.host) (H.failures self.new.host)
+            (WithDraft self.old draft.old (λ file. IsLawful file → ⊥)) result }
+    {
+        self.hold_draft(draft);
+        let mut header = *draft.header();
+        let group = n / 512;
+        let mut map = self.copy_map(alloc, draft, group)?;
+        let Some(free) = free_with(&header, state_of(&map, n % 512)) else {
+            return Err(BaseError::Changed { unit: 0 });
+        };
+        mark(&mut map, n % 512, State::Recycled);
+        header.free = free;
+        header.mark_group(group, true);
+        put_map(draft, &header, group, map)?;
+        Ok(())
     }
 
     // Finds the free block of least number.

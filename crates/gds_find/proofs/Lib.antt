@@ -2,3 +2,5 @@ mod TurningLemmas
 mod WayLemmas
 mod FindLemmas
 mod TrailLemmas
+mod SideLemmas
+mod FoundLemmas

@@ -2,8 +2,10 @@
 #![tactic(auto)]
 
 mod finding;
+mod laws;
 mod trail;
 mod turning;
 
 pub use finding::find;
+pub use laws::{items_at_trail, items_beside};
 pub use trail::{Step, Trail};
