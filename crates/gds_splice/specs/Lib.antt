@@ -4,3 +4,5 @@ pub mod Parts
 pub mod Parting
 pub mod Writing
 pub mod Ending
+pub mod Told
+pub mod Divided

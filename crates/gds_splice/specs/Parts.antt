@@ -1,9 +1,12 @@
 -- The blocks that a block has gone into, and the entries above that lead to them.
-use Rattle.std.specs.Prelude.{◌≡◌, ◌≢◌, ◌≤◌, ℕ, List, [], ◌∷◌, ◌++◌, map, take, drop}
+use Rattle.std.specs.Prelude.{◌≡◌, ◌≢◌, ◌<◌, ◌≤◌, ℕ, List, [], ◌∷◌, ◌++◌, map, take, drop}
 use Rattle.gds_block.specs.Item.{Item}
 use Rattle.gds_law.specs.Path.{Steps}
+use Rattle.gds_pack.specs.Entry.{items}
+use Rattle.gds_pack.specs.Packable.{ArePackable}
 use Rattle.gds_pack.specs.Packed.{packed_size}
 use Rattle.gds_split.specs.Pieces.{Piece, entry_to}
+use Rattle.gds_splice.specs.declared.node.Node.{Node}
 use Rattle.gds_splice.specs.declared.parts.Part.{Part}
 use Rattle.gds_splice.specs.declared.parts.Parts.{Parts}
 use Rattle.gds_splice.specs.declared.parts.Step.{Step}
@@ -43,3 +46,16 @@ pub record FitInThree (limit : ℕ) (entries : List Item) : Type 0 where
   pub front_fits : packed_size front ≤ limit
   pub middle_fits : packed_size middle ≤ limit
   pub back_fits : packed_size back ≤ limit
+
+-- the entries of an index block with those that lead to the parts in the place of one
+abbrev pub told_entries : Parts → List Item → Item → List Item → List Item
+told_entries parts front e back = front ++ above_parts parts e.key ++ back
+
+-- An index block is told of the parts in the place of the entry whose record begins at an offset, and may have those
+-- entries.
+pub record TellsOf (parts : Parts) (offset : ℕ) (old new : Node) : Type 0 where
+  pub level : new.level ≡ old.level
+  pub index : 0 < new.level
+  pub packable : ArePackable new.level (items new.entries.items)
+  pub told : (front : List Item) (e : Item) (back : List Item) → items old.entries.items ≡ front ++ e ∷ back
+      → packed_size front ≡ offset → items new.entries.items ≡ told_entries parts front e back

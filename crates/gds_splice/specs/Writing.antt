@@ -7,7 +7,7 @@ use Rattle.gds_draft.specs.Draft.{DraftState}
 use Rattle.gds_file.specs.Rewrite.{Rewrites}
 use Rattle.gds_header.specs.Fields.{block_of, fields_of}
 use Rattle.gds_pack.specs.Entry.{items}
-use Rattle.gds_pack.specs.Packed.{block_bytes}
+use Rattle.gds_pack.specs.Packed.{block_bytes, packed_size}
 use Rattle.gds_pack.specs.Unpacked.{entries_of}
 use Rattle.gds_split.specs.Pieces.{IsWritten, Piece, numbers_of}
 use Rattle.gds_splice.specs.declared.node.Node.{Node}
@@ -27,6 +27,7 @@ CannotRead file n =
 pub record PutsEntries (before after : List ℕ) (n level : ℕ) (entries : List Item) : Type 0 where
   pub rewrites : Rewrites before after (n ∷ [])
   pub bytes : block_of after n ≡ block_bytes entries level 0 (fields_of after).block_size
+  pub fits : packed_size entries ≤ (fields_of after).block_size
 
 -- The blocks of the pieces are written, and nothing else is another.
 pub record PutsPieces (before after : List ℕ) (level : ℕ) (pieces : List Piece) : Type 0 where

@@ -1,13 +1,20 @@
 //! A block of a tree gets other entries or goes into pieces, and the index blocks above it are told.
 #![tactic(auto)]
 
+mod above;
+mod dividing;
 mod laws;
 mod node;
 mod packable;
 mod parting;
 mod parts;
+mod pieces;
 mod sizes;
+mod taking;
+mod telling;
+mod writing;
 
+pub use dividing::divide;
 pub use laws::{
     ancestor_may_part, block_goes_into_pieces, block_stays_one, leaf_may_part, pieces_are_there,
     root_is_raised, taken_blocks, tree_becomes,
@@ -16,3 +23,6 @@ pub use node::{Node, read_node};
 pub use packable::is_packable;
 pub use parting::part;
 pub use parts::{Part, Parts, Step};
+pub use pieces::write_pieces;
+pub use taking::take_blocks;
+pub use writing::put_entries;

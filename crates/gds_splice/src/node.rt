@@ -1,4 +1,4 @@
-ghost use Rattle.std.specs.Prelude.{◌≡◌, ◌<◌, IfNone, IfOk, IfSome, None, Some};
+ghost use Rattle.std.specs.Prelude.{◌≡◌, ◌<◌, IfNone, IfOk, IfSome, OnOk, None, Some};
 ghost use Rattle.gds_base.specs.Ending.{EndsReading};
 ghost use Rattle.gds_base.specs.Drafting.{IsDraftFor, WithDraft};
 ghost use Rattle.gds_block.specs.Block.{IsBlock, level_of};
@@ -33,6 +33,7 @@ pub fn read_node<H: Host>(
 ) -> Result<Node, BaseError>
     requires { IsDraftFor base.old.header draft.now }
     ensures node { IfOk result (λ node. WithDraft base.old draft.now (λ file. IsNodeAt file n node)) }
+    ensures within { OnOk result (n < draft.now.header.total) }
     ensures read { OnlyRead H.told H.moment H.failures H.left_since base.old base.new }
     ensures ends { EndsReading (H.failures base.old.host) (H.failures base.new.host)
         (WithDraft base.old draft.now (λ file. n < draft.now.header.total → CannotRead file n)) result }
