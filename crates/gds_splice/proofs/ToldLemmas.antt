@@ -16,7 +16,7 @@ use Rattle.gds_splice.specs.Told.{CannotTell, IsStepTo, IsTold}
 use Rattle.gds_splice.specs.Writing.{CannotRead, IsNodeAt}
 use Rattle.gds_splice.specs.declared.node.Node.{Node}
 use Rattle.gds_splice.specs.declared.parts.Parts.{Parts}
-use Rattle.gds_splice.specs.declared.parts.Step.{Step}
+use Rattle.gds_find.specs.declared.trail.Step.{Step}
 
 -- A block with entries can be read as one.
 pub is_block_at : (file : List ℕ) (v : Visit) (level : ℕ) (es : List Item) → IsImage file → HasEntries file v level es

@@ -8,9 +8,10 @@ use Rattle.gds_sound.specs.Sound.{Tree}
 use Rattle.gds_split.specs.Pieces.{Piece, pieces_above}
 use Rattle.gds_ancestors.specs.Ancestors.{Ancestor, outer_blocks, steps_to}
 use Rattle.gds_splice.specs.Parted.{IsParted, TreeBecomes, items_around}
-use Rattle.gds_splice.specs.Parts.{above_parts, steps_of}
+use Rattle.gds_find.specs.Trail.{steps_of}
+use Rattle.gds_splice.specs.Parts.{above_parts}
 use Rattle.gds_splice.specs.declared.parts.Parts.{Parts}
-use Rattle.gds_splice.specs.declared.parts.Step.{Step}
+use Rattle.gds_find.specs.declared.trail.Step.{Step}
 
 -- The child of an index block is in pieces, these steps lead to the record of that child, and these parts say which
 -- the pieces are. There are at most three.

@@ -1,7 +1,6 @@
 -- The blocks that a block has gone into, and the entries above that lead to them.
 use Rattle.std.specs.Prelude.{◌≡◌, ◌≢◌, ◌<◌, ◌≤◌, ℕ, List, [], ◌∷◌, ◌++◌, map, take, drop}
 use Rattle.gds_block.specs.Item.{Item}
-use Rattle.gds_law.specs.Path.{Steps}
 use Rattle.gds_pack.specs.Entry.{items}
 use Rattle.gds_pack.specs.Packable.{ArePackable}
 use Rattle.gds_pack.specs.Packed.{packed_size}
@@ -9,11 +8,6 @@ use Rattle.gds_split.specs.Pieces.{Piece, entry_to}
 use Rattle.gds_splice.specs.declared.node.Node.{Node}
 use Rattle.gds_splice.specs.declared.parts.Part.{Part}
 use Rattle.gds_splice.specs.declared.parts.Parts.{Parts}
-use Rattle.gds_splice.specs.declared.parts.Step.{Step}
-
--- steps as a path has them
-abbrev pub steps_of : List Step → Steps
-steps_of steps = map (λ s. (s.block, s.offset)) steps
 
 -- the entry above that leads to a part
 abbrev pub part_entry : Part → Item

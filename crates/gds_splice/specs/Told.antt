@@ -10,7 +10,7 @@ use Rattle.gds_tree.specs.Keeps.{IsImage}
 use Rattle.gds_splice.specs.Parts.{told_entries}
 use Rattle.gds_splice.specs.declared.node.Node.{Node}
 use Rattle.gds_splice.specs.declared.parts.Parts.{Parts}
-use Rattle.gds_splice.specs.declared.parts.Step.{Step}
+use Rattle.gds_find.specs.declared.trail.Step.{Step}
 
 -- A step is to the record of an entry of an index block, whose children have this level.
 pub record IsStepTo (file : List ℕ) (step : Step) (v : Visit) (level : ℕ) (front : List Item) (e : Item)

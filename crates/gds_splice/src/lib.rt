@@ -15,6 +15,7 @@ mod telling;
 mod writing;
 
 pub use dividing::divide;
+pub use gds_find::Step;
 pub use laws::{
     ancestor_may_part, block_goes_into_pieces, block_stays_one, leaf_may_part, pieces_are_there,
     root_is_raised, taken_blocks, tree_becomes,
@@ -22,7 +23,8 @@ pub use laws::{
 pub use node::{Node, read_node};
 pub use packable::is_packable;
 pub use parting::part;
-pub use parts::{Part, Parts, Step};
+pub use parts::{Part, Parts};
 pub use pieces::write_pieces;
+pub use sizes::place_at;
 pub use taking::take_blocks;
 pub use writing::put_entries;

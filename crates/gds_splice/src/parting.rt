@@ -3,9 +3,10 @@ ghost use Rattle.gds_base.specs.Drafting.{Drafts, IsDraftFor, OnlyDrafts, WithDr
 ghost use Rattle.gds_splice.specs.Ending.{EndsParting};
 ghost use Rattle.gds_splice.specs.Parting.{CannotGrow, CannotPart, PartsUpwards};
 
-use crate::parts::{Parts, Step};
+use crate::parts::Parts;
 use gds_base::{Base, BaseError};
 use gds_draft::Draft;
+use gds_find::Step;
 use host_model::Host;
 use std::alloc::Global;
 

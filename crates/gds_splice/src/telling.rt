@@ -6,9 +6,10 @@ ghost use Rattle.gds_units.specs.Reading.{OnlyRead};
 
 use crate::above::tell;
 use crate::node::{Node, read_node};
-use crate::parts::{Parts, Step};
+use crate::parts::Parts;
 use gds_base::{Base, BaseError};
 use gds_draft::Draft;
+use gds_find::Step;
 use host_model::Host;
 use std::alloc::Global;
 
