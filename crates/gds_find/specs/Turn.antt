@@ -36,8 +36,8 @@ IsTurn height es key (Down level offset block) =
     (level ≡ height) × (0 < height) × IsChild es key (record { offset = offset; block = block })
 IsTurn height es key (Here offset place) = (height ≡ 0) × (offset ≡ place.offset) × IsPlace es key place
 
--- The way of a key goes on from the block of a visit, which has this level, by the record at this offset: to this block,
--- where a sound tree stands that is one level lower, and in whose bounds the key lies.
+-- The way of a key goes on from the block of a visit, which has this level, by the record at this offset: to this
+-- block, where a sound tree stands that is one level lower, and in whose bounds the key lies.
 pub record LeadsDown (file : List ℕ) (v : Visit) (key : List ℕ) (level offset block : ℕ) : Type 0 where
   pub child : Visit
   pub leads : child_at file v offset ≡ Some child

@@ -10,8 +10,8 @@ ghost use Rattle.m_key.specs.Key.{Below};
 ghost use Rattle.gds_find.specs.Found.{PartsItems};
 ghost use Rattle.gds_find.specs.Trail.{HoldsKey, IsTrail};
 
-/// Where the bounds of a visit hold a key, so do those of the root above it, and the items beside the way down are below
-/// the key on the one side and above it on the other.
+/// Where the bounds of a visit hold a key, so do those of the root above it. The items before the way down are below
+/// the key, and those behind it above.
 pub fn items_beside()
     ensures holds { (image : List ℕ) (root w : Visit) (above : List Ancestor) (level : ℕ) (key : List ℕ)
         → IsImage image → AreAncestors image root above w level → HoldsKey w key → HoldsKey root key }

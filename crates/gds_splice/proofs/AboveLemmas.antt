@@ -50,12 +50,12 @@ items_around_place : (xs : List Entry) (i : ℕ) (d : Entry) → i < length xs
 items_around_place xs i d low =
     ap items (around_place xs i d low) ∙ map-append item (take i xs) (slice_index_or xs i d ∷ drop (i + 1) xs)
 
-record AreSame {A : Type 0} (a : List A) (x : A) (b c : List A) (y : A) (d : List A) : Type 0 where
+pub record AreSame {A : Type 0} (a : List A) (x : A) (b c : List A) (y : A) (d : List A) : Type 0 where
   pub front : a ≡ c
   pub one : x ≡ y
   pub back : b ≡ d
 
-same_parts : {A : Type 0} (a : List A) (x : A) (b c : List A) (y : A) (d : List A) → length a ≡ length c
+pub same_parts : {A : Type 0} (a : List A) (x : A) (b c : List A) (y : A) (d : List A) → length a ≡ length c
     → a ++ x ∷ b ≡ c ++ y ∷ d → AreSame a x b c y d
 same_parts [] x b [] y d long same = record { front = refl; one = cc; back = cc }
 same_parts [] x b (z ∷ c) y d long same = absurd (omega arith)

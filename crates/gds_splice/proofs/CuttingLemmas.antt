@@ -3,7 +3,7 @@ use Rattle.std.proofs.Common.{◌≡◌, ◌≢◌, ◌≤◌, ◌<◌, ◌+◌,
 use Rattle.std.proofs.Common.{arith, subst, append_assoc, slice_index_or, slice_set}
 use Rattle.gds_block.specs.Item.{Item}
 use Rattle.gds_pack.specs.Entry.{item, items}
-use Rattle.gds_pack.specs.Packable.{AreIndex, AreLeaves, ArePackable}
+use Rattle.gds_pack.specs.Packable.{AreIndex, ArePackable}
 use Rattle.gds_pack.specs.Packed.{first_key, key_behind, packed_size}
 use Rattle.gds_pack.specs.declared.entry.Entry.{Entry}
 use Rattle.gds_split.specs.Pieces.{own_entries, parting_key, starred}

@@ -1,7 +1,7 @@
 -- A block whose entries are put into several.
-use Rattle.std.proofs.Common.{◌≡◌, ◌+◌, ◌-◌, ◌<◌, ◌≤◌, ℕ, List, [], ◌∷◌, ◌++◌, Result, Ok, Err, length, false, refl, sym, ap, ◌∙◌, subst, arith}
+use Rattle.std.proofs.Common.{◌≡◌, ◌+◌, ◌-◌, ◌<◌, ◌≤◌, ℕ, List, [], ◌∷◌, ◌++◌, Result, Ok, Err, length, false, refl, sym, ◌∙◌, subst, arith}
 use Rattle.std.proofs.Common.{Bool, true, inr, inl, length-append, rules, tests}
-use Rattle.std.specs.Prelude.{All, IfOk, IsTrue, OnOk, nat_eq, nat_lt, ◌==◌, ◌^◌}
+use Rattle.std.specs.Prelude.{IfOk, IsTrue, OnOk, nat_eq, nat_lt, ◌==◌, ◌^◌}
 use Rattle.std.specs.List.{IsDistinct}
 use Rattle.std.proofs.lemmas.Bool.{eqb-false, false≢true, or_parts}
 use Rattle.gds_block.specs.Item.{Item}
@@ -9,7 +9,6 @@ use Rattle.gds_file.specs.FileLaws.{IsLawful}
 use Rattle.gds_file.specs.Maps.{has_block, is_busy}
 use Rattle.gds_file.specs.Rewrite.{AreAllBusy}
 use Rattle.gds_header.specs.Fields.{fields_of}
-use Rattle.gds_header.specs.Kinds.{header_faults}
 use Rattle.gds_header.specs.declared.header.Header.{Header}
 use Rattle.gds_header.specs.declared.kind.HeaderKind.TheVariants.{BadTransactionNumber}
 use Rattle.gds_sound.proofs.HeaderLemmas.{none_of_header}
@@ -73,3 +72,7 @@ divides_by before mid after kept fresh lengths numbers level size es parts l bus
       told = λ key. subst (λ ns. pieces_above level (pieces_of lengths ns es) key ≡ above_parts parts key) are
           (told key);
     }
+
+-- no blocks are all busy
+pub none_busy : (file : List ℕ) → AreAllBusy file []
+none_busy file n there = absurd (false≢true there)

@@ -1,10 +1,9 @@
 -- What calls on a base and a draft of it leave, one after another.
-use Rattle.std.proofs.Common.{◌≡◌, ◌+◌, ◌≤◌, ℕ, Option, Result, Ok, Err, List, length, refl, sym, ap, ◌∙◌, subst, arith}
+use Rattle.std.proofs.Common.{◌≡◌, ◌+◌, ◌≤◌, ℕ, Option, Result, Err, refl, sym, ap, ◌∙◌, subst, arith}
 use Rattle.std.specs.Prelude.{IsErrAnd}
 use Rattle.std.proofs.lemmas.Result.{err_from_is_err_and}
-use Rattle.host_model.specs.Failures.{Failures, NeverFell, Rose}
+use Rattle.host_model.specs.Failures.{Failures, NeverFell}
 use Rattle.host_model.specs.Files.{Contents}
-use Rattle.host_model.specs.Frames.{WasRead}
 use Rattle.host_model.proofs.FrameLemmas.{WasRead-refl, WasRead-then}
 use Rattle.host_model.proofs.MomentLemmas.{LeavesTheSame-refl, LeavesTheSame-trans}
 use Rattle.gds_base.specs.Drafting.{IsDraftFor, OnlyDrafts}

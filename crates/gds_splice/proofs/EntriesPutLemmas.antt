@@ -1,5 +1,5 @@
 -- Entries that are written into blocks of a draft.
-use Rattle.std.proofs.Common.{◌≡◌, ◌+◌, ◌≤◌, ℕ, List, [], ◌∷◌, Result, Ok, Err, length, refl, sym, ap, ◌∙◌, subst, arith}
+use Rattle.std.proofs.Common.{◌≡◌, ◌+◌, ◌≤◌, ℕ, List, [], ◌∷◌, Result, Ok, Err, refl, sym, ap, ◌∙◌, subst, arith}
 use Rattle.std.specs.Prelude.{OnErr, OnOk}
 use Rattle.gds_base.specs.declared.error.BaseError.{BaseError}
 use Rattle.gds_base.specs.declared.error.BaseError.TheVariants.{Memory}

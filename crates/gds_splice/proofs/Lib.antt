@@ -18,3 +18,6 @@ pub mod PutLemmas
 pub mod AboveLemmas
 pub mod ToldLemmas
 pub mod DividedLemmas
+pub mod EndingLemmas
+pub mod OneUpLemmas
+pub mod PartingLemmas

@@ -1,5 +1,5 @@
 -- Keys that are whole, and entries that a block may have.
-use Rattle.std.proofs.Common.{◌≡◌, ◌≤◌, ◌<◌, ◌+◌, ℕ, List, [], ◌∷◌, ◌++◌, length, drop, take, get_or, Option, None, Some}
+use Rattle.std.proofs.Common.{◌≡◌, ◌≤◌, ◌<◌, ◌+◌, ℕ, List, [], ◌∷◌, ◌++◌, length, drop, get_or, Option, None, Some}
 use Rattle.std.proofs.Common.{sym, ap, ◌∙◌, arith, rules, tests, subst, length-drop}
 use Rattle.std.specs.Prelude.{IsTrue, ◌↔◌, option_map, nat_eq}
 use Rattle.std.specs.Ordering.{is_lt}

@@ -1,8 +1,8 @@
 -- Pieces that are written one after another, and the parts that say which they are.
-use Rattle.std.proofs.Common.{◌≡◌, ◌≢◌, ◌≤◌, ◌<◌, ◌+◌, ◌-◌, ℕ, zero, suc, List, [], ◌∷◌, ◌++◌, length, take, drop, get_or, refl, sym, ap}
+use Rattle.std.proofs.Common.{◌≡◌, ◌<◌, ◌+◌, ◌-◌, ℕ, List, [], ◌∷◌, ◌++◌, length, take, drop, get_or, refl, sym, ap}
 use Rattle.std.specs.Prelude.{map}
 use Rattle.std.proofs.Common.{◌∙◌, append-nil, arith, subst, false}
-use Rattle.std.specs.Prelude.{All, nat_eq}
+use Rattle.std.specs.Prelude.{nat_eq}
 use Rattle.std.specs.List.{AllByRecursion, IsDistinct}
 use Rattle.std.proofs.lemmas.Bool.{or_from}
 use Rattle.std.proofs.lemmas.List.{length-map, take-append-drop}
@@ -14,7 +14,7 @@ use Rattle.gds_file.proofs.RewriteLemmas.{rewrite_keeps_header, rewrites_compose
 use Rattle.gds_header.specs.Fields.{block_of, fields_of}
 use Rattle.gds_header.specs.declared.header.Header.{Header}
 use Rattle.gds_pack.specs.Packable.{ArePackable}
-use Rattle.gds_pack.specs.Packed.{block_bytes, packed_size}
+use Rattle.gds_pack.specs.Packed.{block_bytes}
 use Rattle.gds_split.specs.Pieces.{IsWritten, Piece, entries_in, entry_to, key_above, numbers_of, own_entries, parting_key}
 use Rattle.gds_split.specs.Pieces.{pieces_above}
 use Rattle.gds_split.proofs.CutLemmas.{own_whole}

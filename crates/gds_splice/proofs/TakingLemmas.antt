@@ -1,8 +1,7 @@
 -- Free blocks that are taken in a draft one after another.
-use Rattle.std.proofs.Common.{◌≡◌, ◌+◌, ◌≤◌, ◌<◌, ℕ, Option, List, [], ◌∷◌, ◌++◌, length, refl, sym, ap, ◌∙◌, subst, arith, length-append}
+use Rattle.std.proofs.Common.{◌≡◌, ◌+◌, ◌<◌, ℕ, Option, List, [], ◌∷◌, ◌++◌, length, refl, ap, ◌∙◌, subst, arith, length-append}
 use Rattle.std.specs.Prelude.{All}
-use Rattle.std.specs.Option.{ForSome}
-use Rattle.std.proofs.lemmas.List.Elements.{All-nil, All-push}
+use Rattle.std.proofs.lemmas.List.Elements.{All-push}
 use Rattle.host_model.specs.Failures.{Failures}
 use Rattle.host_model.specs.Files.{Contents}
 use Rattle.gds_base.specs.Drafting.{Drafts, OnlyDrafts}
@@ -12,9 +11,9 @@ use Rattle.gds_draft.specs.Drafted.{drafted}
 use Rattle.gds_file.specs.FileLaws.{IsLawful}
 use Rattle.gds_file.specs.Take.{Takes}
 use Rattle.gds_file.specs.TakeLaws.{IsFree}
-use Rattle.gds_units.specs.State.{UnitsState, image_of}
+use Rattle.gds_units.specs.State.{UnitsState}
 use Rattle.gds_splice.specs.Parted.{TakesAll}
-use Rattle.gds_splice.proofs.DraftingLemmas.{OnlyDrafts-refl, OnlyDrafts-then, same_image, same_total}
+use Rattle.gds_splice.proofs.DraftingLemmas.{OnlyDrafts-then, same_image, same_total}
 
 -- one more is taken
 pub takes_more : (a b c : List ℕ) (numbers : List ℕ) (n : ℕ) → TakesAll a b numbers → IsFree b n → Takes b c n

@@ -1,20 +1,15 @@
 -- An index block that is read and told of parts.
-use Rattle.std.proofs.Common.{◌≡◌, ◌<◌, ◌≤◌, ℕ, suc, List, ◌∷◌, ◌++◌, Some, length, refl, sym, ap, ◌∙◌, arith, subst}
-use Rattle.gds_block.specs.Block.{IsBlock, level_of, used_of}
+use Rattle.std.proofs.Common.{◌<◌, ℕ, suc, List, ◌∷◌, ◌++◌, sym, ap, ◌∙◌, arith, subst}
+use Rattle.gds_block.specs.Block.{IsBlock}
 use Rattle.gds_block.specs.Item.{Item}
 use Rattle.gds_header.specs.Fields.{block_of, fields_of}
 use Rattle.gds_law.specs.Visit.{Visit}
-use Rattle.gds_pack.specs.Packable.{ArePackable}
-use Rattle.gds_pack.specs.Packed.{packed_size}
-use Rattle.gds_pack.specs.Entry.{items}
 use Rattle.gds_pack.specs.Unpacked.{entries_of}
 use Rattle.gds_tree.specs.Below.{HasEntries}
 use Rattle.gds_tree.specs.Keeps.{IsImage}
 use Rattle.gds_tree.proofs.ImageLemmas.{block_long}
-use Rattle.gds_splice.specs.Parts.{TellsOf, told_entries}
-use Rattle.gds_splice.specs.Told.{CannotTell, IsStepTo, IsTold}
-use Rattle.gds_splice.specs.Writing.{CannotRead, IsNodeAt}
-use Rattle.gds_splice.specs.declared.node.Node.{Node}
+use Rattle.gds_splice.specs.Told.{CannotTell}
+use Rattle.gds_splice.specs.Writing.{CannotRead}
 use Rattle.gds_splice.specs.declared.parts.Parts.{Parts}
 use Rattle.gds_find.specs.declared.trail.Step.{Step}
 

@@ -6,3 +6,4 @@ pub mod Writing
 pub mod Ending
 pub mod Told
 pub mod Divided
+pub mod OneUp

@@ -1,6 +1,5 @@
 -- Blocks of a draft that are written with packed entries.
-use Rattle.std.specs.Prelude.{◌≡◌, ◌≤◌, ◌<◌, ◌+◌, ◌%◌, ◌≢◌, nat_eq, ℕ, All, List, [], ◌∷◌, length, Some}
-use Rattle.std.specs.List.{IsDistinct}
+use Rattle.std.specs.Prelude.{◌≡◌, ◌≤◌, ◌+◌, ℕ, All, List, [], ◌∷◌, length, Some}
 use Rattle.gds_block.specs.Block.{IsBlock, level_of}
 use Rattle.gds_block.specs.Item.{Item}
 use Rattle.gds_draft.specs.Draft.{DraftState}

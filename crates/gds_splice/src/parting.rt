@@ -3,6 +3,7 @@ ghost use Rattle.gds_base.specs.Drafting.{Drafts, IsDraftFor, OnlyDrafts, WithDr
 ghost use Rattle.gds_splice.specs.Ending.{EndsParting};
 ghost use Rattle.gds_splice.specs.Parting.{CannotGrow, CannotPart, PartsUpwards};
 
+use crate::one_up::tell_one;
 use crate::parts::Parts;
 use gds_base::{Base, BaseError};
 use gds_draft::Draft;
@@ -30,5 +31,13 @@ pub fn part<H: Host>(
         (WithDraft base.old draft.old (CannotPart steps.now parts.now))
         (WithDraft base.old draft.old (CannotGrow steps.now parts.now)) result }
 {
-    Err(BaseError::Memory)
+    base.hold_draft(draft);
+    let Some((step, outer)) = steps.split_last() else {
+        return Err(BaseError::Changed { unit: 0 });
+    };
+    let Some(own) = tell_one(alloc, base, draft, *step, outer.is_empty(), parts)? else {
+        return Ok(());
+    };
+    base.hold_draft(draft);
+    part(alloc, base, draft, outer, &own)
 }

@@ -1,4 +1,4 @@
-use Rattle.std.proofs.Common.{◌≡◌, ◌∙◌, ◌∷◌, List, ℕ, [], ap, sym, arith, refl, rules, subst, length, length-drop, get_or, take, drop, ◌-◌}
+use Rattle.std.proofs.Common.{◌≡◌, ◌∙◌, ◌∷◌, List, ℕ, ap, sym, arith, refl, subst, length, length-drop, get_or, take, drop, ◌-◌}
 use Rattle.std.specs.Prelude.{nat_eq}
 use Rattle.std.specs.List.{IsDistinct}
 use Rattle.gds_split.specs.Pieces.{own_entries, parting_key}

@@ -1,8 +1,7 @@
-use Rattle.std.proofs.Common.{◌≡◌, ◌-◌, ◌∙◌, [], ap, sym, arith, refl}
-use Rattle.gds_pack.specs.Entry.{item, items}
+use Rattle.std.proofs.Common.{◌-◌, ◌∙◌, [], ap, sym, arith}
+use Rattle.gds_pack.specs.Entry.{items}
 use Rattle.gds_pack.specs.declared.entry.Entry.{Entry}
-use Rattle.gds_tree.specs.Below.{as_star}
-use Rattle.gds_splice.proofs.CuttingLemmas.{first_of, last_key, last_starred, own_index, own_leaf, parting_index, parting_leaf}
+use Rattle.gds_splice.proofs.CuttingLemmas.{last_key, last_starred, own_index, parting_index}
 use Rattle.gds_splice.proofs.pieces.part_key.Goals as goal
 
 pub returns-clause-key : goal.returns-clause-key

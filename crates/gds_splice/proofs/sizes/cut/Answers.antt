@@ -1,9 +1,9 @@
-use Rattle.std.proofs.Common.{◌≡◌, ◌-◌, ◌++◌, take, List, ◌∷◌, [], drop, length, ℕ, arith, ap, subst, sym, ◌∙◌, refl}
+use Rattle.std.proofs.Common.{◌-◌, ◌++◌, take, List, ◌∷◌, [], drop, length, arith, ap, subst, sym, ◌∙◌}
 use Rattle.gds_pack.proofs.CutLemmas.{Fitting}
 use Rattle.gds_pack.specs.declared.entry.Entry.{Entry}
 use Rattle.gds_pack.specs.Entry.{items}
 use Rattle.gds_pack.specs.Packed.{packed_size}
-use Rattle.gds_splice.specs.Parts.{FitInRuns, FitInThree}
+use Rattle.gds_splice.specs.Parts.{FitInRuns}
 use Rattle.gds_splice.proofs.RunLemmas.{none_fits, rest_whole, second_none, third_fits, two_runs, three_runs}
 use Rattle.gds_splice.proofs.sizes.cut.Goals as goal
 

@@ -1,4 +1,4 @@
-use Rattle.std.proofs.Common.{◌+◌, sym, subst, ap, ◌∙◌}
+use Rattle.std.proofs.Common.{◌+◌, sym, subst}
 use Rattle.gds_splice.proofs.TakingLemmas.{HasTaken, taken_one_more}
 use Rattle.gds_splice.proofs.taking.take_blocks.Goals as goal
 

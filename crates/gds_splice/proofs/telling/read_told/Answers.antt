@@ -1,4 +1,4 @@
-use Rattle.std.proofs.Common.{◌<◌, subst, sym, ap}
+use Rattle.std.proofs.Common.{◌<◌, subst}
 use Rattle.host_model.proofs.FailureLemmas.{NeverFell-refl}
 use Rattle.gds_draft.specs.Drafted.{drafted}
 use Rattle.gds_header.specs.declared.header.Header.{Header}
