@@ -17,7 +17,6 @@ mod telling;
 mod writing;
 
 pub use dividing::divide;
-pub use gds_find::Step;
 pub use laws::{
     ancestor_may_part, block_goes_into_pieces, block_stays_one, leaf_may_part, pieces_are_there,
     root_is_raised, taken_blocks, tree_becomes,
