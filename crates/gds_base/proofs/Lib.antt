@@ -4,3 +4,6 @@ pub mod MapLemmas
 pub mod ReadingLemmas
 pub mod PutLemmas
 pub mod FreeingLemmas
+pub mod NewMapLemmas
+pub mod GrowingLemmas
+pub mod GrownLemmas

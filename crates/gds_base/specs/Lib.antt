@@ -5,3 +5,4 @@ pub mod Spaces
 pub mod Put
 pub mod Errors
 pub mod Held
+pub mod Reserve

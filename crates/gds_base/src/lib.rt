@@ -5,7 +5,9 @@ mod base;
 mod calls;
 mod error;
 mod groups;
+mod growing;
 mod reading;
+mod reserving;
 mod spaces;
 
 pub use base::Base;
