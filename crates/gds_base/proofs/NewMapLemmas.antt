@@ -31,10 +31,10 @@ one_more_map first old tn from group map low is maps new =
       header = maps.header;
       maps = λ g above below. elim (cases_eq g group) [
         | inl same ↦ subst (HasNewMap (with_block old (512 * group) map) tn) (sym same) (record {
-            map = map;
-            has = put.there;
-            new = subst (λ h. IsNewMap map tn (present_in h group)) (sym maps.header) new;
-          })
+          map = map;
+          has = put.there;
+          new = subst (λ h. IsNewMap map tn (present_in h group)) (sym maps.header) new;
+        })
         | inr other ↦
             let had = maps.maps g above (omega (arith, below, other)) in
             record {

@@ -1,15 +1,15 @@
 //! Free blocks for a change.
-ghost use Rattle.std.specs.Prelude.{◌≡◌, ◌↔◌, ◌<◌, ◌≤◌, None, OnOk};
+ghost use Rattle.std.specs.Prelude.{◌≡◌, ◌↔◌, ◌⊎◌, ◌<◌, ◌≤◌, None, OnOk};
 ghost use Rattle.gds_base.specs.Drafting.{Drafts, IsDraftFor};
 ghost use Rattle.gds_base.specs.Ending.{EndsReading};
 ghost use Rattle.gds_base.specs.Reserve.{EndsReserving, OnlyGrows, Reserves};
 ghost use Rattle.gds_file.specs.FileLaws.{IsLawful};
 ghost use Rattle.gds_file.specs.Grow.{Grows};
-ghost use Rattle.gds_file.specs.Room.{grown_free, room_of};
+ghost use Rattle.gds_file.specs.Room.{extended, grown_free, room_of};
 ghost use Rattle.gds_units.specs.State.{image_of};
 
-use crate::growing::{extended, grown_free, grown_header, mark_new, put_new_maps};
 use crate::groups::present_in;
+use crate::growing::{extended, grown_free, grown_header, mark_new, put_new_maps};
 use crate::{Base, BaseError};
 use gds_draft::Draft;
 use host_model::Host;
@@ -21,10 +21,13 @@ const RESERVE: u32 = 32;
 impl<H: Host> Base<H> {
     /// Makes sure of 32 free blocks. Where fewer are free, the draft grows by the extension, or up to the limit.
     ///
-    /// `Full` comes exactly where fewer were free if the draft had grown to its limit, and nothing is done then.
+    /// `Full` comes exactly where fewer would be free if the draft grew to its limit. Then too the draft stays as it is.
     pub fn reserve32(&mut self, alloc: Global, draft: &mut Draft) -> Result<(), BaseError>
         requires { IsDraftFor self.old.header draft.old }
         ensures enough { OnOk result (32 ≤ draft.new.header.free) }
+        ensures longer { draft.old.header.free < 32
+            → OnOk result (draft.new.header.total ≡ extended draft.old.header) }
+        ensures stays { (32 ≤ draft.old.header.free) ⊎ (room_of draft.old.header < 32) → draft.new ≡ draft.old }
         ensures reserved { OnOk result (Drafts self.old draft.old draft.new (λ before after.
             IsLawful before → Reserves draft.old draft.new before after)) }
         ensures full { (result ≡ Err BaseError.Full) ↔ (room_of draft.old.header < 32) }
@@ -44,12 +47,7 @@ impl<H: Host> Base<H> {
     }
 
     // Gives a draft so many blocks, the new ones free.
-    fn grow_draft(
-        &mut self,
-        alloc: Global,
-        draft: &mut Draft,
-        total: u32,
-    ) -> Result<(), BaseError>
+    fn grow_draft(&mut self, alloc: Global, draft: &mut Draft, total: u32) -> Result<(), BaseError>
         requires draft { IsDraftFor self.old.header draft.old }
         requires few { draft.old.header.free < 32 }
         requires from { draft.old.header.total < total }

@@ -110,7 +110,12 @@ impl<H: Host> Base<H> {
     }
 
     // A copy of a group's map.
-    pub(crate) fn copy_map(&mut self, alloc: Global, draft: &Draft, group: u32) -> Result<Vec<u8>, BaseError>
+    pub(crate) fn copy_map(
+        &mut self,
+        alloc: Global,
+        draft: &Draft,
+        group: u32,
+    ) -> Result<Vec<u8>, BaseError>
         requires draft { IsDraftFor self.old.header draft.now }
         requires there { 512 * group < draft.now.header.total }
         ensures map { IfOk result (λ map. WithDraft self.old draft.now (λ file. map.items ≡ map_of file group)) }

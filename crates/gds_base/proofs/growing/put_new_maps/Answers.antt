@@ -18,10 +18,10 @@ loop-group-preserved c =
           c.header-header.ensures.draft c.loop-group.invariant.maps
           (subst (λ h. IsNewMap map c.args.tn (present_in h group)) c.header.ensures.header c.in_ok-map.ensures.new));
       more = omega (
-          arith,
-          c.loop-group.invariant.more,
-          one_more c.loop-group.draft.units (record { unit = 512 * group + 1; bytes = map }),
-          ap (λ (d : DraftState). length d.units) put,
+        arith,
+        c.loop-group.invariant.more,
+        one_more c.loop-group.draft.units (record { unit = 512 * group + 1; bytes = map }),
+        ap (λ (d : DraftState). length d.units) put,
       );
     }
 

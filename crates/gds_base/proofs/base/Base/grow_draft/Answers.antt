@@ -8,12 +8,14 @@ use Rattle.gds_units.specs.State.{image_of}
 use Rattle.gds_draft.specs.Draft.{DraftState, IsDraft, with_block}
 use Rattle.gds_draft.specs.Drafted.{drafted}
 use Rattle.gds_draft.proofs.UnitLemmas.{one_more}
-use Rattle.gds_base.specs.Reserve.{GetsMaps, GetsPlaces, GrowsHeader}
+use Rattle.gds_base.specs.Reserve.{GetsMaps, GetsPlaces, GrowsHeader, OnlyGrows}
 use Rattle.gds_base.specs.Spaces.{present_in}
 use Rattle.gds_base.proofs.MapLemmas.{lent_whole}
 use Rattle.gds_base.proofs.GrowingLemmas.{last_group}
 use Rattle.gds_base.proofs.GrownLemmas.{few_more, grown_lawful, not_shorter, only_grown}
+use Rattle.gds_base.proofs.base.Base.grow_draft.Given.{Over}
 use Rattle.gds_base.proofs.base.Base.grow_draft.Goals as goal
+use Rattle.gds_base.proofs.base.Base.grow_draft.Goals.{After-put_new_maps}
 
 pub returns-clause-grown : goal.returns-clause-grown
 returns-clause-grown g c x tells =
@@ -51,8 +53,11 @@ returns-clause-grown g c x tells =
     (subst (λ (f : Header). GetsMaps (with_block longer (512 * last_group f.total) map) new c.saturating_sub.result
     (last_group f.total + 1) (groups_in c.args.total)) was maps) c.saturating_sub.ensures
 
-pub returns-in_err-put_new_maps-clause-drafts : goal.returns-in_err-put_new_maps-clause-drafts
-returns-in_err-put_new_maps-clause-drafts g c =
+-- Whether all maps were put or not, the draft has only grown.
+drafts : (g : Over) (c : After-put_new_maps g)
+    → OnlyGrows g.H.Host.told g.H.Host.moment g.H.Host.failures g.H.Host.left_since c.args.self.now c.copy_map.new.self
+    c.args.draft.now c.put_new_maps.new.draft
+drafts g c =
     let old = c.args.draft.now in
     let longer : DraftState = c.put_header.new.self in
     let mid : DraftState = c.put_vec.new.self in
@@ -79,30 +84,9 @@ returns-in_err-put_new_maps-clause-drafts g c =
           c.header.ensures.draft.limits.total_from refl (omega (arith, c.div_ceil.ensures)) c.put_new_maps.ensures.more;
     }
 
+pub returns-in_err-put_new_maps-clause-drafts : goal.returns-in_err-put_new_maps-clause-drafts
+returns-in_err-put_new_maps-clause-drafts g c =
+    drafts g (goal.at.returns-in_err-put_new_maps-clause-drafts g c).After-put_new_maps
+
 pub returns-clause-drafts : goal.returns-clause-drafts
-returns-clause-drafts g c =
-    let old = c.args.draft.now in
-    let longer : DraftState = c.put_header.new.self in
-    let mid : DraftState = c.put_vec.new.self in
-    let new : DraftState = c.put_new_maps.new.draft in
-    let hdr : Header = c.header.result.now in
-    let h : Header = c.grown_header-header.result in
-    let n : ℕ = 512 * last_group hdr.total in
-    let bytes : List ℕ = take c.in_ok-map.map.len
-    (c.mark_new.new.map ++ drop (length c.mark_new.new.map) c.in_ok-map.map.items) in
-    let from : ℕ = last_group hdr.total + 1 in
-    let to : ℕ = c.div_ceil.result in
-    let total : ℕ = c.args.total in
-    let was = c.header.ensures.header in
-    let grows = c.grown_header-header.ensures in
-    let got_header = c.put_header.ensures.put in
-    let got_block = c.in_ok-put_vec.ensures.put in
-    let got_maps = c.put_new_maps.ensures.header in
-    record {
-      read = c.in_ok-map.ensures.read;
-      header = only_grown old longer mid new hdr h n bytes from to total was grows got_header got_block got_maps;
-      total = not_shorter old longer mid new hdr h n bytes from to total was grows got_header got_block got_maps
-          c.requires.from;
-      more = few_more old longer mid new hdr h n bytes from to total was grows got_header got_block got_maps
-          c.header.ensures.draft.limits.total_from refl (omega (arith, c.div_ceil.ensures)) c.put_new_maps.ensures.more;
-    }
+returns-clause-drafts g c = drafts g (goal.at.returns-clause-drafts g c).After-put_new_maps
