@@ -3,6 +3,11 @@ pub mod PlaceLemmas
 pub mod MapLemmas
 pub mod ReadingLemmas
 pub mod PutLemmas
+pub mod PlanLemmas
+pub mod CommitLemmas
+pub mod RoomLemmas
+pub mod MomentLemmas
+pub mod CommittedLemmas
 pub mod FreeingLemmas
 pub mod NewMapLemmas
 pub mod GrowingLemmas

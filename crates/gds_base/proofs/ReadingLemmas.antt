@@ -1,9 +1,11 @@
 -- Blocks of the image and of the image with a draft.
-use Rattle.std.proofs.Common.{◌≡◌, ℕ, ◌+◌, ◌<◌, ◌≤◌, ◌==◌, Bool, true, false, List, [], ◌∷◌, length, refl, sym, ap}
-use Rattle.std.proofs.Common.{subst, ◌∙◌, arith, replicate, None, Some}
+use Rattle.std.proofs.Common.{◌≡◌, ℕ, ◌+◌, ◌<◌, ◌≤◌, ◌==◌, Bool, true, false, List, [], ◌∷◌, ◌++◌, length, take, refl, sym, ap}
+use Rattle.std.proofs.Common.{subst, ◌∙◌, arith, replicate, Bor, Option, None, Some}
+use Rattle.std.specs.Option.{option_copied}
 use Rattle.std.specs.Prelude.{All, if◌then◌else◌, nat_lt}
 use Rattle.std.proofs.lemmas.Bool.{cond-false, cond-true, eqb-true, le-ltb, lt-ltb}
 use Rattle.std.proofs.lemmas.List.Elements.{All-head, All-tail}
+use Rattle.std.proofs.lemmas.List.{take_at}
 use Rattle.std.proofs.lemmas.Nat.{row_fits}
 use Rattle.host_model.specs.Units.{IsUnit}
 use Rattle.gds_header.specs.declared.header.Header.{Header}
@@ -89,3 +91,11 @@ pub length_drafted : (draft : DraftState) (n : ℕ) (bytes : List ℕ) → IsDra
     → length bytes ≡ draft.header.block_size
 length_drafted draft n bytes is has =
     let one = found_has (IsBlockOf draft.header) draft.units (n + 1) bytes is.blocks has in one.size
+
+-- what is told of an option of borrowed bytes that is this one
+pub copied_is : (o p : Option (Bor (List ℕ))) (x : Option (List ℕ)) → option_copied o ≡ x → o ≡ p → x ≡ option_copied p
+copied_is o p x copied is = sym copied ∙ ap option_copied is
+
+-- a list that is the front of a longer one, as long as the first part of it
+pub front_is : (xs ys rest : List ℕ) (n : ℕ) → xs ≡ take n (ys ++ rest) → length ys ≡ n → xs ≡ ys
+front_is xs ys rest n is long = is ∙ take_at ys rest n long

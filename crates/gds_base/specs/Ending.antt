@@ -5,7 +5,7 @@ use Rattle.host_model.specs.Files.{Contents}
 use Rattle.gds_units.specs.Reading.{OnlyRead}
 use Rattle.gds_units.specs.State.{UnitsState, image_of}
 use Rattle.gds_base.specs.declared.error.BaseError.{BaseError}
-use Rattle.gds_base.specs.declared.error.BaseError.TheVariants.{Changed, Memory, ReadFault, Stopped, WriteFault}
+use Rattle.gds_base.specs.declared.error.BaseError.TheVariants.{Changed, Memory, ReadFault, Stopped, TnSpent, WriteFault}
 
 -- A call that reads: failed reads have become more, or the file isn't what it should be, for a cause that the call
 -- names.
@@ -29,3 +29,12 @@ module _ {H T : Type 0} (before now : Failures) (old new : UnitsState H) where
   EndsWriting (Err WriteFault) = (old.stopped ≡ false) × (new.stopped ≡ true) × Rose before.write now.write
   EndsWriting (Err Stopped) = (old.stopped ≡ true) × (new ≡ old)
   EndsWriting (Err _) = ⊥
+
+  -- So does a commit, which also reads and takes memory, over a host that told this, and for which the transaction
+  -- numbers may be spent: then it does nothing.
+  abbrev pub EndsCommit : Option Contents → Result T BaseError → Type 0
+  EndsCommit told (Err Memory) = new.stopped ≡ old.stopped
+  EndsCommit told (Err ReadFault) = (new.stopped ≡ old.stopped) × Rose before.read now.read
+  EndsCommit told (Err (Changed unit)) = (new.stopped ≡ old.stopped) × (told ≡ None)
+  EndsCommit told (Err TnSpent) = new ≡ old
+  EndsCommit told result = EndsWriting result

@@ -6,3 +6,5 @@ pub mod Put
 pub mod Errors
 pub mod Held
 pub mod Reserve
+pub mod Commit
+pub mod Room

@@ -3,9 +3,11 @@
 
 mod base;
 mod calls;
+mod commit;
 mod error;
 mod groups;
 mod growing;
+mod plan;
 mod reading;
 mod reserving;
 mod spaces;

@@ -1,18 +1,17 @@
 use Rattle.std.proofs.Common.{◌≡◌, None, Some, Ok, drop, length, refl, sym, ap, subst, ◌∙◌}
-use Rattle.std.specs.Option.{option_copied}
-use Rattle.std.proofs.lemmas.List.{take_at}
 use Rattle.gds_draft.specs.Draft.{block_in}
 use Rattle.gds_base.specs.Ending.{EndsLending}
 use Rattle.gds_units.specs.Laws.{OnlyRead-refl}
 use Rattle.gds_units.specs.State.{UnitsState, image_of}
-use Rattle.gds_base.proofs.ReadingLemmas.{block_drafted, block_not_drafted, length_drafted}
+use Rattle.gds_base.proofs.ReadingLemmas.{block_drafted, block_not_drafted, copied_is, front_is, length_drafted}
 use Rattle.gds_base.proofs.base.Base.read.Goals as goal
 
 pub returns-in-Some : goal.returns-in-Some
 returns-in-Some g c =
     let h = g.H.Host in
     let draft = c.args.draft.now in
-    let has : block_in draft c.args.n ≡ Some c.in-Some.bytes.now = sym c.get.ensures ∙ ap option_copied c.in-Some.is in (
+    let has : block_in draft c.args.n ≡ Some c.in-Some.bytes.now =
+    copied_is c.get.result (Some c.in-Some.bytes) (block_in draft c.args.n) c.get.ensures c.in-Some.is in (
       (
         refl,
         λ w. tt,
@@ -38,10 +37,11 @@ returns g c =
     c.read_undrafted.ensures.len ∙ ap length c.deref_mut.ensures.value ∙ c.self.invariant.size
     ∙ ap (λ (s : UnitsState g.row.H.Denot). s.header.block_size) c.self.view_is in
     let given : c.deref.result.now ≡ c.read_undrafted.new.out =
-    c.deref.ensures.value
-    ∙ take_at c.read_undrafted.new.out (drop (length c.read_undrafted.new.out) c.self.inside.room.items)
-    c.self.inside.room.len (c.read_undrafted.ensures.len ∙ c.deref_mut.ensures.len) in
-    let none : block_in draft c.args.n ≡ None = sym c.get.ensures ∙ ap option_copied c.in_default.is in (
+    front_is c.deref.result.now c.read_undrafted.new.out
+    (drop (length c.read_undrafted.new.out) c.self.inside.room.items) c.self.inside.room.len c.deref.ensures.value
+    (c.read_undrafted.ensures.len ∙ c.deref_mut.ensures.len) in
+    let none : block_in draft c.args.n ≡ None =
+    copied_is c.get.result None (block_in draft c.args.n) c.get.ensures c.in_default.is in (
       (
         refl,
         λ w. tt,
