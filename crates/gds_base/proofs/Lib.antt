@@ -10,3 +10,6 @@ pub mod MomentLemmas
 pub mod CommittedLemmas
 pub mod FreeingLemmas
 pub mod FindsLemmas
+pub mod NewMapLemmas
+pub mod GrowingLemmas
+pub mod GrownLemmas

@@ -7,8 +7,10 @@ mod commit;
 mod error;
 mod groups;
 mod laws;
+mod growing;
 mod plan;
 mod reading;
+mod reserving;
 mod spaces;
 
 pub use base::Base;
