@@ -7,3 +7,4 @@ pub mod Errors
 pub mod Held
 pub mod Commit
 pub mod Room
+pub mod Reserve

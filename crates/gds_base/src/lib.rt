@@ -6,8 +6,10 @@ mod calls;
 mod commit;
 mod error;
 mod groups;
+mod growing;
 mod plan;
 mod reading;
+mod reserving;
 mod spaces;
 
 pub use base::Base;
