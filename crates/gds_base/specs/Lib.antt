@@ -5,3 +5,5 @@ pub mod Spaces
 pub mod Put
 pub mod Errors
 pub mod Held
+pub mod Commit
+pub mod Room

@@ -2,7 +2,10 @@
 #![tactic(auto)]
 
 mod base;
+mod calls;
+mod commit;
 mod error;
+mod plan;
 mod reading;
 mod spaces;
 

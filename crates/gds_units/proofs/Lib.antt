@@ -1,14 +1,14 @@
 mod OpeningLemmas
-mod PatchedLemmas
+pub mod PatchedLemmas
 mod HeldLemmas
-mod DurableLemmas
+pub mod DurableLemmas
 mod SayingLemmas
-mod UnitLemmas
+pub mod UnitLemmas
 mod ReadingLemmas
 mod SourcingLemmas
 mod KeepingLemmas
-mod DropLemmas
+pub mod DropLemmas
 mod PlanLemmas
 mod CarriedLemmas
 mod CreatingLemmas
-mod ExampleLemmas
+pub mod ExampleLemmas

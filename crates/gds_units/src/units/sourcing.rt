@@ -29,15 +29,16 @@ impl<H: Host> UnitSource for Units<H> {
     }
 
     fn unit(&mut self, unit: u32, out: &mut [u8]) -> Result<(), UnitTrouble> {
-        self.hold_untold();
+        self.hold_told();
         Ok(Units::unit(self, unit, out)?)
     }
 }
 
 impl<H: Host> Units<H> {
-    /// Does nothing: where the host tells nothing, no image is told.
-    fn hold_untold(&self)
-        ensures { H.told self.now.host ≡ None → image_of self.now ≡ None }
+    /// Does nothing: the image is told exactly where the host tells.
+    pub fn hold_told(&self)
+        ensures untold { H.told self.now.host ≡ None → image_of self.now ≡ None }
+        ensures tells { image_of self.now ≡ None → H.told self.now.host ≡ None }
     {
         let _host = &self.host;
     }

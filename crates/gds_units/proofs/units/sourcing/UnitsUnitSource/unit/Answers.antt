@@ -11,7 +11,7 @@ returns-in_err-unit-clause-changed g c unit is =
     let exit = err_from_is_err_and c.from_residual.result c.from_residual.ensures.1 in
     let h = g.H.Host in
     let s = c.args.self.now in
-    c.hold_untold.ensures
+    c.hold_told.ensures.untold
     (changed_untold (h.told s.host) (h.failures s.host) (h.failures c.unit.new.self.host) c.in_err-unit.field-0.0 unit
     c.in_err-unit.ensures.cause (sym exit.2 ∙ same_err c.from_residual.result exit.0 (trouble.Changed unit) exit.1 is))
 

@@ -1,0 +1,68 @@
+-- What a commit leaves of what is told.
+use Rattle.std.proofs.Common.{◌≡◌, ℕ, ◌+◌, List, length, Option, None, Some, refl, sym, ap, subst, ◌∙◌, arith}
+use Rattle.std.specs.Prelude.{map, option_map}
+use Rattle.std.specs.Option.{ForSome}
+use Rattle.std.proofs.lemmas.List.{length-map}
+use Rattle.host_model.specs.Told.{TellsOn}
+use Rattle.host_model.proofs.FrameLemmas.{TellsOn-some}
+use Rattle.gds_header.specs.declared.header.Header.{Header}
+use Rattle.gds_header.specs.Fields.{fields_of}
+use Rattle.gds_images.specs.Outcome.{IsWhole}
+use Rattle.gds_epoch.specs.Epoch.{database_of}
+use Rattle.gds_epoch.specs.Waiting.{WaitingUnit}
+use Rattle.gds_epoch.specs.WaitingView.{unit_of, units_of}
+use Rattle.gds_epoch.specs.declared.waiting.UnitBytes.{UnitBytes}
+use Rattle.gds_draft.specs.Committed.{IsCommitted, next_header}
+use Rattle.gds_draft.specs.Draft.{DraftState}
+use Rattle.gds_draft.specs.Laws.{IsDraftOf}
+use Rattle.gds_units.specs.Plan.{IsCarriedOut}
+use Rattle.gds_units.specs.State.{UnitsState, image_of}
+use Rattle.gds_base.specs.Commit.{IsPlanOf, stamped}
+use Rattle.gds_base.specs.Drafting.{IsDraftFor}
+use Rattle.gds_base.specs.Room.{HasZeros}
+use Rattle.gds_base.proofs.CommitLemmas.{is_committed}
+use Rattle.gds_base.proofs.RoomLemmas.{file_of_image}
+
+-- how many units there are
+pub plan_long : (draft : DraftState) (items : List UnitBytes) → IsPlanOf draft (units_of items)
+    → length items ≡ length draft.units + 1
+plan_long draft items planned =
+    omega (
+      arith,
+      length-map items unit_of,
+      ap length planned.units_are,
+      length-map draft.units (stamped draft.header.tn),
+    )
+
+told_on : {A : Type 0} (a b : Option A) (R : A → A → Type 0)
+    → ((x : A) → a ≡ Some x → (y : A) × (b ≡ Some y) × R x y) → TellsOn a b R
+told_on None b R so = tt
+told_on (Some x) b R so = let at = so x refl in rw at.1 at.2
+
+module _ {H : Type 0} (old mid new : UnitsState H) (draft : DraftState) (plan : List WaitingUnit)
+    (planned : IsPlanOf draft plan) (fits : IsDraftFor old.header draft)
+    (is : ForSome (image_of old) (λ image. IsDraftOf image draft)) (whole : ForSome (image_of old) IsWhole)
+    (fields : ForSome (image_of old) (λ image. fields_of image ≡ old.header))
+    (mid_header : mid.header ≡ old.header) (same : image_of mid ≡ image_of old)
+    (zero : ForSome mid.file (HasZeros old.header draft.header.total))
+    (carried : TellsOn mid.file new.file (IsCarriedOut mid.header plan))
+    (new_header : new.header ≡ next_header draft.header)
+    (new_whole : ForSome (image_of new) IsWhole)
+    (new_fields : ForSome (image_of new) (λ image. fields_of image ≡ new.header)) where
+  each_committed : (image : List ℕ) → image_of old ≡ Some image
+      → (file : List ℕ) × (image_of new ≡ Some file) × IsCommitted draft image file
+  each_committed image told =
+      let at = file_of_image mid.file image (same ∙ told) in
+      let next = TellsOn-some mid.file new.file (IsCarriedOut mid.header plan) at.0 at.1 carried in
+      let told_new : image_of new ≡ Some (database_of next.0) = ap (option_map database_of) next.1 in
+      (
+        database_of next.0,
+        told_new,
+        is_committed image draft (is image told) old.header (fields image told) (whole image told) plan planned fits
+            at.0 next.0 (database_of next.0) at.2 (zero at.0 at.1)
+            (subst (λ (h : Header). IsCarriedOut h plan at.0 next.0) mid_header next.2) refl
+            (new_whole (database_of next.0) told_new) (new_fields (database_of next.0) told_new ∙ new_header),
+      )
+
+  pub committed : TellsOn (image_of old) (image_of new) (IsCommitted draft)
+  committed = told_on (image_of old) (image_of new) (IsCommitted draft) each_committed
