@@ -7,12 +7,12 @@ use Rattle.host_model.specs.Failures.{Failures, NeverFell}
 use Rattle.host_model.specs.Files.{Contents}
 use Rattle.host_model.specs.Told.{TellsOn}
 use Rattle.host_model.proofs.FailureLemmas.{then-Rose}
+use Rattle.host_model.proofs.FrameLemmas.{TellsOn-some}
 use Rattle.gds_images.specs.Recovered.{recovered}
 use Rattle.gds_recovery.specs.Errors as recovery
 use Rattle.gds_recovery.specs.Found.{EndsReading, FindsSame}
 use Rattle.gds_recovery.specs.declared.error.RecoveryError.{RecoveryError}
 use Rattle.gds_recovery.specs.declared.error.RecoveryError.TheVariants as why
-use Rattle.gds_units.specs.Held.{IsRecoverable}
 use Rattle.gds_units.specs.Opening.{HasOpeningCause, unit_error}
 use Rattle.gds_units.specs.State.{UnitsState, image_of}
 use Rattle.gds_units.specs.declared.error.UnitError.{UnitError}
@@ -46,32 +46,27 @@ pub opening_cause : (told : Option Contents) (before now : Failures) (e : UnitEr
     → HasOpeningCause told before now e → HasCause told before now e
 opening_cause told before now e has = rw has.is (recovery_cause told before now has.why has.cause)
 
+-- Of open units the image is told where the host is. Their host tells where it told before.
 module _ (told mid : Option Contents) (image : Option (List ℕ))
     (is : ForSome told (λ c. image ≡ recovered c.db c.images)) (same : TellsOn told mid FindsSame)
-    (found : ForSome mid IsRecoverable) where
-  -- The image is there, where the host told.
-  image_there : (c : Contents) → told ≡ Some c → (file : List ℕ) × (recovered c.db c.images ≡ Some file)
-  image_there c tells = by told mid tells same found
-    where
-      by : (told mid : Option Contents) → told ≡ Some c → TellsOn told mid FindsSame → ForSome mid IsRecoverable
-          → (file : List ℕ) × (recovered c.db c.images ≡ Some file)
-      by None mid tells same found = absurd (cc)
-      by (Some x) None tells same found = absurd same
-      by (Some x) (Some d) tells same found =
-          let here : x ≡ c = cc in
-          let is = found d refl in
-          (is.image, rw here at (sym same.found ∙ is.recovers))
-
-  pub image_is_some : (c : Contents) → told ≡ Some c → IsSome image
-  image_is_some c tells = let there = image_there c tells in rw (is c tells ∙ there.1) refl
-
+    (told_both : image ≡ None → mid ≡ None) where
   image_untold : image ≡ None → told ≡ None
   image_untold none = by told refl
     where
       by : (o : Option Contents) → told ≡ o → told ≡ None
       by None tells = tells
       by (Some c) tells =
-          let there = image_there c tells in absurd (cc (none, is c tells, there.1))
+          let now = TellsOn-some told mid FindsSame c tells same in absurd (cc (told_both none, now.1))
+
+  image_there : (c : Contents) → told ≡ Some c → (file : List ℕ) × (image ≡ Some file)
+  image_there c tells = by image refl
+    where
+      by : (o : Option (List ℕ)) → image ≡ o → (file : List ℕ) × (image ≡ Some file)
+      by None none = absurd (cc (image_untold none, tells))
+      by (Some file) some = (file, some)
+
+  pub image_is_some : (c : Contents) → told ≡ Some c → IsSome image
+  image_is_some c tells = rw (image_there c tells).1 refl
 
   -- Units that are open, and that have faults or can't be read
   pub reading_cause : (before opened now : Failures) (e : UnitError) → NeverFell before opened
@@ -83,7 +78,7 @@ module _ (told mid : Option Contents) (image : Option (List ℕ))
     cause.0,
     λ c tells.
         let there = image_there c tells in
-        record { file = there.0; found = there.1; has = cause.1 there.0 (is c tells ∙ there.1) },
+        record { file = there.0; found = sym (is c tells) ∙ there.1; has = cause.1 there.0 there.1 },
   )
   reading_cause before opened now (answer.Changed unit) fell cause = image_untold cause
   reading_cause before opened now _ fell cause = absurd cause

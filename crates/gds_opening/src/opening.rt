@@ -6,7 +6,6 @@ ghost use Rattle.gds_images.specs.Recovered.{recovered};
 ghost use Rattle.gds_law.specs.Faults.{AreFaults};
 ghost use Rattle.gds_recovery.specs.Found.{FindsSame, HasNothingToDo, IsUnwritten};
 ghost use Rattle.gds_sound.specs.Sound.{HasOneMap};
-ghost use Rattle.gds_units.specs.Held.{IsRecoverable};
 ghost use Rattle.gds_units.specs.Opening.{AreFresh, IsStable, KeepsOpening, host_after};
 ghost use Rattle.gds_units.specs.State.{image_of};
 ghost use Rattle.gds_units.specs.declared.error.UnitError.TheVariants.{Memory};
@@ -55,13 +54,6 @@ pub fn open<H: Host>(alloc: Global, host: H) -> Result<Base<H>, Returned<H>>
     ensures untold { H.told host ≡ None → H.told (host_after result) ≡ None }
 {
     let units = Units::open(alloc, host)?;
-    hold_found(&units);
+    units.hold_told();
     without_faults(alloc, units)
-}
-
-/// Does nothing: an opening finds some database of what the host of open units tells.
-fn hold_found<H: Host>(units: &Units<H>)
-    ensures { ForSome (H.told units.now.host) IsRecoverable }
-{
-    let _header = units.header();
 }

@@ -21,7 +21,7 @@ returns-clause-there g c =
     let told = g.H.Host.told in
     let units = c.in_ok-units.units in
     let some = image_is_some (told c.args.host) (told units.host) (image_of units) c.in_ok-units.ensures.image
-    c.in_ok-units.ensures.same c.hold_found.ensures in
+    c.in_ok-units.ensures.same c.hold_told.ensures.tells in
     of_base c.without_faults.result units (λ image. ForSome (told c.args.host) (λ _. IsSome image))
     c.without_faults.ensures.base (any_ok c.without_faults.result _ some)
 
@@ -43,6 +43,6 @@ returns-clause-cause g c =
     let units = c.in_ok-units.units in
     IfErr-weaker c.without_faults.result _ _
     (λ returned cause. reading_cause (h.told c.args.host) (h.told units.host) (image_of units)
-    c.in_ok-units.ensures.image c.in_ok-units.ensures.same c.hold_found.ensures (h.failures c.args.host)
+    c.in_ok-units.ensures.image c.in_ok-units.ensures.same c.hold_told.ensures.tells (h.failures c.args.host)
     (h.failures units.host) (h.failures returned.host) returned.error c.in_ok-units.ensures.failures cause)
     c.without_faults.ensures.cause
