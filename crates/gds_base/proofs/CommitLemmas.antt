@@ -1,24 +1,23 @@
 -- The file that a commit leaves.
 use Rattle.std.proofs.Common.{◌≡◌, ℕ, ◌+◌, ◌-◌, ◌*◌, ◌<◌, ◌≤◌, ◌==◌, false, List, ◌++◌, length, take, drop, replicate, sym}
-use Rattle.std.proofs.Common.{append_assoc, get_or, ap, subst, ◌∙◌, ⊎_elim, arith, lit≤, length-append, length-take, length-drop, Some, None}
-use Rattle.std.specs.Prelude.{All, option_map}
+use Rattle.std.proofs.Common.{append_assoc, get_or, ap, subst, ◌∙◌, ⊎_elim, arith, length-take, length-drop, Some, None}
+use Rattle.std.specs.Prelude.{All}
 use Rattle.std.proofs.lemmas.Bool.{cases_lt, cond-false, ne_eqb}
 use Rattle.std.proofs.lemmas.List.{drop-append-le, drop-replicate, drop-take, length-replicate, take-append-le}
 use Rattle.std.proofs.lemmas.List.{take-replicate, take-take}
 use Rattle.std.proofs.Math.Nat.{mul-le-mul_right}
 use Rattle.std.proofs.Math.Seq.{drop-append-add}
-use Rattle.std.proofs.lemmas.List.Elements.{All-weaker}
 use Rattle.std.proofs.lemmas.Nat.{row_fits}
 use Rattle.host_model.specs.Disk.{written}
 use Rattle.gds_header.specs.declared.header.Header.{Header}
-use Rattle.gds_header.specs.Fields.{block_of, fields_of, file_length_of, header_bytes, image_length, place_of, zeros}
+use Rattle.gds_header.specs.Fields.{block_of, fields_of, file_length_of, header_bytes, image_length, place_of}
 use Rattle.gds_images.specs.Outcome.{IsWhole}
 use Rattle.gds_epoch.specs.Epoch.{database_of}
 use Rattle.gds_epoch.specs.Waiting.{IsRising, LiesWithin, WaitingUnit, patched}
 use Rattle.gds_file.specs.Stamp.{with_number}
 use Rattle.gds_draft.specs.Committed.{IsCommitted, next_header}
 use Rattle.gds_draft.specs.Draft.{DraftState, block_in}
-use Rattle.gds_draft.specs.Drafted.{drafted, or_block}
+use Rattle.gds_draft.specs.Drafted.{drafted}
 use Rattle.gds_draft.specs.Laws.{IsDraftOf}
 use Rattle.gds_units.specs.Plan.{IsCarriedOut, header_after}
 use Rattle.gds_units.proofs.DropLemmas.{within_total}

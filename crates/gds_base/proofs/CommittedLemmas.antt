@@ -1,6 +1,7 @@
 -- What a commit leaves of what is told.
-use Rattle.std.proofs.Common.{◌≡◌, ℕ, ◌+◌, List, length, Option, None, Some, refl, sym, ap, subst, ◌∙◌, arith}
-use Rattle.std.specs.Prelude.{map, option_map}
+use Rattle.std.proofs.Common.{◌≡◌, ℕ, ◌+◌, ◌<◌, ◌^◌, List, length, Option, None, Some, Result, Ok, Err, refl}
+use Rattle.std.proofs.Common.{sym, ap, subst, ◌∙◌, arith}
+use Rattle.std.specs.Prelude.{OnErr, OnOk, option_map}
 use Rattle.std.specs.Option.{ForSome}
 use Rattle.std.proofs.lemmas.List.{length-map}
 use Rattle.host_model.specs.Told.{TellsOn}
@@ -14,11 +15,18 @@ use Rattle.gds_epoch.specs.WaitingView.{unit_of, units_of}
 use Rattle.gds_epoch.specs.declared.waiting.UnitBytes.{UnitBytes}
 use Rattle.gds_draft.specs.Committed.{IsCommitted, next_header}
 use Rattle.gds_draft.specs.Draft.{DraftState}
+use Rattle.gds_draft.specs.Drafted.{drafted}
 use Rattle.gds_draft.specs.Laws.{IsDraftOf}
+use Rattle.gds_draft.proofs.CommitLemmas.{committed_is_stamped}
+use Rattle.gds_draft.proofs.DraftLemmas.{drafted_read}
+use Rattle.gds_file.proofs.StampLemmas.{stamp_keeps_trees}
 use Rattle.gds_units.specs.Plan.{IsCarriedOut}
 use Rattle.gds_units.specs.State.{UnitsState, image_of}
+use Rattle.gds_units.proofs.DurableLemmas.{some_same}
 use Rattle.gds_base.specs.Commit.{IsPlanOf, stamped}
 use Rattle.gds_base.specs.Drafting.{IsDraftFor}
+use Rattle.gds_base.specs.Faultless.{IsFaultless}
+use Rattle.gds_base.specs.Held.{IsBase}
 use Rattle.gds_base.specs.Room.{HasZeros}
 use Rattle.gds_base.proofs.CommitLemmas.{is_committed}
 use Rattle.gds_base.proofs.RoomLemmas.{file_of_image}
@@ -54,8 +62,7 @@ module _ {H : Type 0} (old mid new : UnitsState H) (draft : DraftState) (plan : 
   each_committed image told =
       let at = file_of_image mid.file image (same ∙ told) in
       let next = TellsOn-some mid.file new.file (IsCarriedOut mid.header plan) at.0 at.1 carried in
-      let told_new : image_of new ≡ Some (database_of next.0) = ap (option_map database_of) next.1 in
-      (
+      let told_new : image_of new ≡ Some (database_of next.0) = ap (option_map database_of) next.1 in (
         database_of next.0,
         told_new,
         is_committed image draft (is image told) old.header (fields image told) (whole image told) plan planned fits
@@ -66,3 +73,48 @@ module _ {H : Type 0} (old mid new : UnitsState H) (draft : DraftState) (plan : 
 
   pub committed : TellsOn (image_of old) (image_of new) (IsCommitted draft)
   committed = told_on (image_of old) (image_of new) (IsCommitted draft) each_committed
+
+-- ---- The file has no fault again.
+
+-- A file that a commit makes of an image that has no fault with the draft has none.
+committed_faultless : (image : List ℕ) (draft : DraftState) (file : List ℕ) → IsDraftOf image draft
+    → draft.header.tn < 2 ^ 63 → IsFaultless (drafted draft image) → IsCommitted draft image file → IsFaultless file
+committed_faultless image draft file is few faultless made =
+    let fields = (drafted_read image draft is).fields in
+    record {
+      directory = faultless.directory;
+      globals = faultless.globals;
+      sound = stamp_keeps_trees (drafted draft image) file faultless.directory faultless.globals faultless.sound
+          (committed_is_stamped image draft file is few made)
+          (omega (arith, few, ap (λ (h : Header). h.tn) fields));
+    }
+
+module _ (draft : DraftState) (few : draft.header.tn < 2 ^ 63) where
+  -- So it is where it is told, whether the commit was done or not.
+  after_ok : (old new : Option (List ℕ)) → ForSome old (λ image. IsDraftOf image draft)
+      → ForSome old (λ image. IsFaultless (drafted draft image)) → TellsOn old new (IsCommitted draft)
+      → (old ≡ None → new ≡ None) → ForSome new IsFaultless
+  after_ok None new is faultless made none file told =
+      absurd (let no : None ≡ Some file = sym (none refl) ∙ told in cc)
+  after_ok (Some image) new is faultless made none file told =
+      let at = TellsOn-some (Some image) new (IsCommitted draft) image refl made in
+      let here : at.0 ≡ file = some_same at.0 file (sym at.1 ∙ told) in
+      committed_faultless image draft file (is image refl) few (faultless image refl)
+      (subst (IsCommitted draft image) here at.2)
+
+  pub stays_base : {H T E : Type 0} (old new : UnitsState H) (room : List ℕ) (result : Result T E)
+      → IsBase old room → IsDraftFor old.header draft
+      → ForSome (image_of old) (λ image. IsDraftOf image draft)
+      → ForSome (image_of old) (λ image. IsFaultless (drafted draft image))
+      → OnOk result (new.header ≡ next_header draft.header)
+      → OnOk result (TellsOn (image_of old) (image_of new) (IsCommitted draft))
+      → OnErr result ((image_of new ≡ image_of old) × (new.header ≡ old.header))
+      → (image_of old ≡ None → image_of new ≡ None) → IsBase new room
+  stays_base old new room (Ok value) held fits is faultless header made err none = record {
+    faultless = after_ok (image_of old) (image_of new) is faultless made none;
+    size = held.size ∙ sym fits.block_size ∙ ap (λ (h : Header). h.block_size) (sym header);
+  }
+  stays_base old new room (Err error) held fits is faultless header made err none = record {
+    faultless = subst (λ told. ForSome told IsFaultless) (sym err.0) held.faultless;
+    size = held.size ∙ ap (λ (h : Header). h.block_size) (sym err.1);
+  }

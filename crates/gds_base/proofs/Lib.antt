@@ -1,3 +1,6 @@
+pub mod GroupLemmas
+pub mod PlaceLemmas
+pub mod MapLemmas
 pub mod ReadingLemmas
 pub mod PutLemmas
 pub mod PlanLemmas
@@ -5,3 +8,4 @@ pub mod CommitLemmas
 pub mod RoomLemmas
 pub mod MomentLemmas
 pub mod CommittedLemmas
+pub mod FreeingLemmas

@@ -1,9 +1,9 @@
 -- Calls one after another: how they end, and what a crash leaves.
-use Rattle.std.proofs.Common.{◌≡◌, ◌⊎◌, ℕ, ◌≤◌, false, true, List, Option, None, Some, Result, Err, refl, sym, subst}
+use Rattle.std.proofs.Common.{◌≡◌, ◌⊎◌, ℕ, ◌≤◌, false, List, Option, None, Some, Result, Err, refl, sym, subst}
 use Rattle.std.proofs.Common.{◌∙◌, inl, inr, ⊎_elim, true≢false}
 use Rattle.host_model.specs.Failures.{Failures, NeverFell}
 use Rattle.host_model.specs.Files.{Contents}
-use Rattle.host_model.specs.Moments.{EachLeft, LeavesOnly}
+use Rattle.host_model.specs.Moments.{EachLeft}
 use Rattle.host_model.specs.Told.{TellsOn}
 use Rattle.host_model.proofs.FailureLemmas.{then-Rose}
 use Rattle.host_model.proofs.FrameLemmas.{TellsOn-some}

@@ -1,5 +1,5 @@
 -- Room for a draft behind the image, and what a crash leaves while it is made.
-use Rattle.std.proofs.Common.{◌≡◌, ℕ, ◌-◌, ◌≤◌, List, length, replicate, Option, None, Some, refl, sym, ap, subst}
+use Rattle.std.proofs.Common.{◌≡◌, ℕ, ◌-◌, ◌≤◌, List, length, replicate, Option, None, Some, refl, sym, ap}
 use Rattle.std.proofs.Common.{◌∙◌, arith, length-take}
 use Rattle.std.specs.Prelude.{option_map}
 use Rattle.std.specs.Option.{ForSome}

@@ -5,6 +5,7 @@ mod base;
 mod calls;
 mod commit;
 mod error;
+mod groups;
 mod plan;
 mod reading;
 mod spaces;
