@@ -8,3 +8,4 @@ pub mod Held
 pub mod Commit
 pub mod Room
 pub mod Reserve
+pub mod Finds
