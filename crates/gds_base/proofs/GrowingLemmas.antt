@@ -1,20 +1,19 @@
 -- A file that has grown, by its header, the map of its last group, and new maps.
 use Rattle.std.proofs.Common.{◌≡◌, ◌≢◌, ℕ, ◌+◌, ◌-◌, ◌*◌, ◌/◌, ◌%◌, ◌<◌, ◌≤◌, ◌==◌, Bool, true, false, not, ◌&&◌, List}
-use Rattle.std.proofs.Common.{◌⊎◌, inl, inr, length, refl, sym, ap, subst, ◌∙◌, arith, if◌then◌else◌, take}
+use Rattle.std.proofs.Common.{inl, inr, refl, sym, ap, ◌∙◌, arith, if◌then◌else◌, take}
 use Rattle.std.specs.Prelude.{nat_lt}
-use Rattle.std.proofs.lemmas.Bool.{and_right, cases_eq, cases_lt, eq-eqb, false≢true, le-ltb, lt-ltb, ltb-false, ltb-true}
+use Rattle.std.proofs.lemmas.Bool.{cases_eq, cases_lt, false≢true, le-ltb, lt-ltb, ltb-false, ltb-true}
 use Rattle.std.proofs.lemmas.Bool.{ne_eqb}
-use Rattle.gds_block.specs.Block.{tn_of}
 use Rattle.gds_bitmap.specs.declared.state.State.TheVariants.{Busy, New}
 use Rattle.gds_bitmap.specs.State.{is_free, state_from}
 use Rattle.gds_bitmap.specs.Bitmap.{is_free_at, state_at}
 use Rattle.gds_bitmap.proofs.CountLemmas.{count_below-same}
 use Rattle.gds_header.specs.Fields.{block_of, fields_of}
-use Rattle.gds_header.specs.Kinds.{groups_of, has_free}
+use Rattle.gds_header.specs.Kinds.{has_free}
 use Rattle.gds_law.specs.Maps.{has_free_place, is_present, map_of}
 use Rattle.gds_sound.proofs.HeaderLemmas.{limits_of}
 use Rattle.gds_file.specs.FileLaws.{IsLawful}
-use Rattle.gds_file.specs.Grow.{Grows, HasMapHead, coming_state}
+use Rattle.gds_file.specs.Grow.{Grows, HasMapHead}
 use Rattle.gds_file.specs.Room.{groups_in}
 use Rattle.gds_file.proofs.FreeCountLemmas.{counted}
 use Rattle.gds_base.specs.Reserve.{GetsPlaces, GrowsHeader, IsNewMap}
@@ -158,7 +157,8 @@ module _ (before after : List ℕ) (total tn : ℕ) (lawful : IsLawful before) (
           place_left after group (present_in (fields_of after) group) false there refl
           (λ k low passes.
           let first : k ≡ 0 = omega (arith, low, one) in
-          let busy = came group 0 (omega arith) (omega (arith, one, more, total_now)) (omega (arith, there, total_now)) in
+          let behind : old ≤ 512 * group + 0 = omega (arith, one, more, total_now) in
+          let busy = came group 0 (omega arith) behind (omega (arith, there, total_now)) in
           false≢true (sym (ap is_free busy) ∙ ap (is_free_at (map_of after group)) (sym first) ∙ passes))
 
   groups : (group : ℕ) → group < groups_in total → has_free (fields_of after) group ≡ has_free_place after group

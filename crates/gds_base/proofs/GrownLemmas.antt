@@ -1,5 +1,5 @@
 -- The image with a draft that got a longer file's header, another map of the last group, and new maps.
-use Rattle.std.proofs.Common.{◌≡◌, ◌≢◌, ℕ, ◌+◌, ◌-◌, ◌*◌, ◌/◌, ◌%◌, ◌<◌, ◌≤◌, List, [], Some, sym, ap, subst, ◌∙◌}
+use Rattle.std.proofs.Common.{◌≡◌, ◌≢◌, ℕ, ◌+◌, ◌-◌, ◌*◌, ◌<◌, ◌≤◌, List, [], sym, ap, subst, ◌∙◌}
 use Rattle.std.proofs.Common.{arith, length}
 use Rattle.gds_header.specs.declared.header.Header.{Header}
 use Rattle.gds_header.specs.Fields.{block_of, fields_of}
@@ -124,7 +124,8 @@ module _ (image : List ℕ) (old new : DraftState) (h : Header) (map : List ℕ)
       (subst
       (λ (g : Header). GetsPlaces (map_of before (last_group g.total)) (map_of after (last_group g.total))
       (g.total - 512 * last_group g.total) (present_in (fields_of after) (last_group g.total))) (sym old_fields)
-      (subst (λ g. GetsPlaces (map_of before last) (map_of after last) (old.header.total - 512 * last) (present_in g last))
+      (subst
+      (λ g. GetsPlaces (map_of before last) (map_of after last) (old.header.total - 512 * last) (present_in g last))
       (sym new_fields)
       (subst (λ m. GetsPlaces (map_of before last) m (old.header.total - 512 * last) (present_in h last)) (sym last_map)
       places)))

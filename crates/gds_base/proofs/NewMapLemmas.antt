@@ -1,5 +1,5 @@
 -- Places that become new in a map, and maps that come into a draft, one after another.
-use Rattle.std.proofs.Common.{◌≡◌, ◌≢◌, ℕ, ◌+◌, ◌*◌, ◌<◌, ◌≤◌, List, inl, inr, sym, ap, subst, ◌∙◌, arith, length}
+use Rattle.std.proofs.Common.{ℕ, ◌+◌, ◌*◌, ◌<◌, ◌≤◌, List, inl, inr, sym, ap, subst, ◌∙◌, arith}
 use Rattle.std.proofs.lemmas.Bool.{cases_eq}
 use Rattle.gds_bitmap.specs.declared.state.State.TheVariants.{New}
 use Rattle.gds_bitmap.specs.Bitmap.{Marks, state_at}

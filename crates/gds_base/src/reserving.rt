@@ -21,7 +21,7 @@ const RESERVE: u32 = 32;
 impl<H: Host> Base<H> {
     /// Makes sure of 32 free blocks. Where fewer are free, the draft grows by the extension, or up to the limit.
     ///
-    /// `Full` comes exactly where fewer would be free if the draft grew to its limit. Then too the draft stays as it is.
+    /// `Full` comes exactly where fewer would be free if the draft grew to its limit, and the draft stays then.
     pub fn reserve32(&mut self, alloc: Global, draft: &mut Draft) -> Result<(), BaseError>
         requires { IsDraftFor self.old.header draft.old }
         ensures enough { OnOk result (32 ≤ draft.new.header.free) }

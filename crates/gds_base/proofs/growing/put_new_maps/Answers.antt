@@ -1,5 +1,5 @@
-use Rattle.std.proofs.Common.{ℕ, ◌≡◌, ◌+◌, ◌-◌, ◌*◌, ◌≤◌, ◌∙◌, List, arith, length, sym, ap, subst}
-use Rattle.gds_draft.specs.Draft.{DraftState, with_block}
+use Rattle.std.proofs.Common.{ℕ, ◌≡◌, ◌+◌, ◌*◌, List, arith, length, sym, ap, subst}
+use Rattle.gds_draft.specs.Draft.{DraftState}
 use Rattle.gds_draft.proofs.UnitLemmas.{one_more}
 use Rattle.gds_base.specs.Reserve.{GetsMaps, IsNewMap}
 use Rattle.gds_base.specs.Spaces.{present_in}

@@ -1,4 +1,4 @@
-use Rattle.std.proofs.Common.{◌≡◌, ◌+◌, ◌-◌, ◌≤◌, length}
+use Rattle.std.proofs.Common.{◌+◌, ◌-◌, ◌≤◌, length}
 use Rattle.gds_base.specs.Reserve.{GetsMaps}
 use Rattle.gds_base.proofs.growing.put_new_maps.Given as goal
 

@@ -1,13 +1,10 @@
-use Rattle.std.proofs.Common.{ℕ, ◌≡◌, ◌+◌, ◌-◌, ◌*◌, ◌/◌, ◌<◌, ◌≤◌, ◌∙◌, ◌++◌, take, drop, refl, List, sym, ap, subst, arith, length}
-use Rattle.gds_file.specs.FileLaws.{IsLawful}
-use Rattle.gds_file.specs.Grow.{Grows}
+use Rattle.std.proofs.Common.{ℕ, ◌≡◌, ◌+◌, ◌-◌, ◌*◌, ◌∙◌, ◌++◌, take, drop, refl, List, ap, subst, arith, length}
 use Rattle.gds_file.specs.Room.{groups_in}
 use Rattle.gds_header.specs.declared.header.Header.{Header}
 use Rattle.gds_law.specs.Maps.{map_of}
 use Rattle.gds_units.specs.State.{image_of}
 use Rattle.gds_draft.specs.Draft.{DraftState, IsDraft, with_block}
 use Rattle.gds_draft.specs.Drafted.{drafted}
-use Rattle.gds_draft.proofs.UnitLemmas.{one_more}
 use Rattle.gds_base.specs.Reserve.{GetsMaps, GetsPlaces, GrowsHeader, OnlyGrows}
 use Rattle.gds_base.specs.Spaces.{present_in}
 use Rattle.gds_base.proofs.MapLemmas.{lent_whole}
