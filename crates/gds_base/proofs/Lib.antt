@@ -12,3 +12,4 @@ pub mod FreeingLemmas
 pub mod NewMapLemmas
 pub mod GrowingLemmas
 pub mod GrownLemmas
+pub mod FindsLemmas

@@ -5,6 +5,7 @@ pub mod Spaces
 pub mod Put
 pub mod Errors
 pub mod Held
-pub mod Reserve
 pub mod Commit
 pub mod Room
+pub mod Reserve
+pub mod Finds

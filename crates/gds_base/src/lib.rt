@@ -7,6 +7,7 @@ mod commit;
 mod error;
 mod groups;
 mod growing;
+mod laws;
 mod plan;
 mod reading;
 mod reserving;
@@ -14,3 +15,4 @@ mod spaces;
 
 pub use base::Base;
 pub use error::BaseError;
+pub use laws::finds;
