@@ -1,0 +1,7 @@
+mod TurningLemmas
+mod WayLemmas
+mod FindLemmas
+mod TrailLemmas
+mod SideLemmas
+mod FoundLemmas
+mod ValueLemmas
