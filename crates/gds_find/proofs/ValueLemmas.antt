@@ -179,8 +179,12 @@ module _ (told : Option (List ℕ)) (draft : DraftState) (trail : Trail)
       (finds : (height : ℕ) (es before behind : List Item) (own : Item) (key : List ℕ) → IsPackedBlock bytes height es
       → IsPlaceFor es key trail.place before (own ∷ behind) → trail.place.is_equal ≡ true
       → IsSomeAnd o (λ (rest : Bor (List ℕ)). rest.now ≡ own.rest)) where
-    pub value_told : ForTrail (λ v key t. IsSomeAnd o (λ (value : Bor (List ℕ)).
-        Contains t.items (record { key = key; rest = value.now })))
+    -- What is lent is the value of an item with the key.
+    abbrev LendsValue : List ℕ → Tree → Option (Bor (List ℕ)) → Type 0
+    LendsValue key t x =
+        IsSomeAnd x (λ (value : Bor (List ℕ)). Contains t.items (record { key = key; rest = value.now }))
+
+    value_told : ForTrail (λ v key t. LendsValue key t o)
     value_told image is_told v key t tree trail_is =
         let file : List ℕ = drafted draft image in
         let found = finds_leaf trail_is.path trail_is.leaf.block trail.place.offset
@@ -191,12 +195,11 @@ module _ (told : Option (List ℕ)) (draft : DraftState) (trail : Trail)
         (drafted_exact image draft (is image is_told)) tree trail_is bytes o is_found
         (reads image is_told ∙ ap (block_of file) own) all finds
 
-    pub value_some : (value : Bor (List ℕ)) → o ≡ Some value → ForTrail (λ v key t. IsValueOf t.items key (Some value.now))
+    pub value_some : (value : Bor (List ℕ)) → o ≡ Some value
+        → ForTrail (λ v key t. IsValueOf t.items key (Some value.now))
     value_some value some image is_told v key t tree trail_is =
-        subst (λ x. IsSomeAnd x (λ (value : Bor (List ℕ)). Contains t.items (record { key = key; rest = value.now }))) some
-        (value_told image is_told v key t tree trail_is)
+        subst (LendsValue key t) some (value_told image is_told v key t tree trail_is)
 
     pub value_none : o ≡ None → ForTrail (λ v key t. ⊥)
     value_none none image is_told v key t tree trail_is =
-        subst (λ x. IsSomeAnd x (λ (value : Bor (List ℕ)). Contains t.items (record { key = key; rest = value.now }))) none
-        (value_told image is_told v key t tree trail_is)
+        subst (LendsValue key t) none (value_told image is_told v key t tree trail_is)

@@ -49,5 +49,6 @@ pub record IsTrail (file : List ℕ) (root : Visit) (key : List ℕ) (steps : St
   pub place_is : IsPlaceFor entries key place before behind
   pub found_is : found ≡ place.is_equal
 
+-- the same of a trail of the code
 abbrev pub HasTrail : List ℕ → Visit → List ℕ → Trail → Type 0
 HasTrail file root key trail = IsTrail file root key (steps_of trail.steps.items) trail.found trail.place

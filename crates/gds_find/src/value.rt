@@ -17,8 +17,8 @@ use gds_draft::Draft;
 use gds_search::rest_at;
 use host_model::Host;
 
-/// Lends the value that stands at the end of a trail, in the image with the draft: that of the record which has the key.
-/// `None` where no record has it.
+/// Lends the value that stands at the end of a trail, in the image with the draft: that of the record which has the
+/// key. `None` where no record has it.
 ///
 /// `Changed` comes where the trail is none of the image with the draft.
 pub fn value_at<'a, H: Host>(

@@ -14,7 +14,8 @@ returns-in_err-step-clause-found c path block offset low is =
 
 pub returns-then-step-header-clause-found : goal.returns-then-step-header-clause-found
 returns-then-step-header-clause-found c path block offset low is =
-    let own = last_block c.args.trail.now.steps.items path block offset (option_copied c.last.result) c.in_ok-step.step.now
+    let own = last_block c.args.trail.now.steps.items path block offset (option_copied c.last.result)
+    c.in_ok-step.step.now
     (c.last.ensures.value ∙ ap (λ (xs : List Step). slice_get xs (length xs - 1)) c.as_slice.ensures.value) is
     (ap option_copied c.in_ok-step.was) in
     absurd (omega (
