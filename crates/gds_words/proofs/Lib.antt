@@ -1,0 +1,2 @@
+mod SettingLemmas
+mod ScriptLemmas
