@@ -1,2 +1,3 @@
 mod SettingLemmas
 mod ScriptLemmas
+mod CreateLemmas
