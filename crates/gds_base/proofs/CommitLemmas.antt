@@ -1,5 +1,6 @@
 -- The file that a commit leaves.
-use Rattle.std.proofs.Common.{◌≡◌, ℕ, ◌+◌, ◌-◌, ◌*◌, ◌<◌, ◌≤◌, ◌==◌, false, List, ◌++◌, length, take, drop, replicate, sym}
+use Rattle.std.proofs.Common.{◌≡◌, ℕ, ◌+◌, ◌-◌, ◌*◌, ◌<◌, ◌≤◌, ◌==◌, false, List, ◌++◌, length, take, drop}
+use Rattle.std.proofs.Common.{replicate, sym}
 use Rattle.std.proofs.Common.{append_assoc, get_or, ap, subst, ◌∙◌, ⊎_elim, arith, length-take, length-drop, Some, None}
 use Rattle.std.specs.Prelude.{All}
 use Rattle.std.proofs.lemmas.Bool.{cases_lt, cond-false, ne_eqb}

@@ -126,7 +126,8 @@ module _ (h : Header) (draft : DraftState) (plan : List WaitingUnit) (planned : 
       (λ w block zero. absurd (omega (arith, zero, block.from)))
 
   -- The numbers rise.
-  number : (i : ℕ) (d : WaitingUnit) → i < length draft.units → (get_or changed i d).unit ≡ (get_or draft.units i d).unit
+  number : (i : ℕ) (d : WaitingUnit) → i < length draft.units
+      → (get_or changed i d).unit ≡ (get_or draft.units i d).unit
   number i d within =
       ap (λ (w : WaitingUnit). w.unit) (get_or-map (stamped draft.header.tn) draft.units i d d within)
 

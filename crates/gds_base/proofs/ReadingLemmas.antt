@@ -1,5 +1,6 @@
 -- Blocks of the image and of the image with a draft.
-use Rattle.std.proofs.Common.{◌≡◌, ℕ, ◌+◌, ◌<◌, ◌≤◌, ◌==◌, Bool, true, false, List, [], ◌∷◌, ◌++◌, length, take, refl, sym, ap}
+use Rattle.std.proofs.Common.{◌≡◌, ℕ, ◌+◌, ◌<◌, ◌≤◌, ◌==◌, Bool, true, false, List, [], ◌∷◌, ◌++◌, length, take}
+use Rattle.std.proofs.Common.{refl, sym, ap}
 use Rattle.std.proofs.Common.{subst, ◌∙◌, arith, replicate, Bor, Option, None, Some}
 use Rattle.std.specs.Option.{option_copied}
 use Rattle.std.specs.Prelude.{All, if◌then◌else◌, nat_lt}

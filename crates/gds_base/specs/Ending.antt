@@ -5,7 +5,8 @@ use Rattle.host_model.specs.Files.{Contents}
 use Rattle.gds_units.specs.Reading.{OnlyRead}
 use Rattle.gds_units.specs.State.{UnitsState, image_of}
 use Rattle.gds_base.specs.declared.error.BaseError.{BaseError}
-use Rattle.gds_base.specs.declared.error.BaseError.TheVariants.{Changed, Memory, ReadFault, Stopped, TnSpent, WriteFault}
+use Rattle.gds_base.specs.declared.error.BaseError.TheVariants.{Changed, Memory, ReadFault, Stopped, TnSpent}
+use Rattle.gds_base.specs.declared.error.BaseError.TheVariants.{WriteFault}
 
 -- A call that reads: failed reads have become more, or the file isn't what it should be, for a cause that the call
 -- names.
