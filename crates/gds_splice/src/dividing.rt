@@ -19,9 +19,9 @@ use gds_draft::Draft;
 use host_model::Host;
 use std::alloc::Global;
 
-/// Puts the entries of a block into pieces, as few as they fit: the first of them in the block that is kept, if any, and
-/// the others in free blocks. Where two suffice both get half of the bytes, unless the entries grow at their end.
-/// `Changed` comes where three pieces don't suffice.
+/// Puts the entries of a block into pieces, as few as they fit: the first of them in the block that is kept, if any,
+/// and the others in free blocks. Where two suffice both get half of the bytes, unless the entries grow at their end.
+/// `Changed` comes where three pieces don't suffice or too few blocks are free.
 pub fn divide<H: Host>(
     alloc: Global,
     base: &mut Base<H>,
