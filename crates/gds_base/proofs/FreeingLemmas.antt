@@ -1,13 +1,13 @@
 -- A block of the image with a draft that becomes free.
-use Rattle.std.proofs.Common.{◌≡◌, ◌≢◌, ℕ, ◌+◌, ◌*◌, ◌/◌, ◌%◌, ◌<◌, ◌≤◌, Bool, true, false, ◌&&◌, List, inl, inr}
-use Rattle.std.proofs.Common.{[], add-zero, length, sym, ap, subst, ◌∙◌, arith, suc, zero}
+use Rattle.std.proofs.Common.{◌≡◌, ◌≢◌, ℕ, ◌+◌, ◌*◌, ◌/◌, ◌%◌, ◌<◌, ◌≤◌, true, ◌&&◌, List, inl, inr}
+use Rattle.std.proofs.Common.{[], add-zero, length, sym, ap, subst, ◌∙◌, arith}
 use Rattle.std.specs.Prelude.{IsTrue, if◌then◌else◌}
 use Rattle.std.proofs.lemmas.Bool.{cases_eq, eq-eqb, eqb-true, lt-ltb}
 use Rattle.gds_bitmap.specs.declared.state.State.TheVariants.{Recycled}
 use Rattle.gds_bitmap.specs.State.{is_free, state_from}
 use Rattle.gds_bitmap.specs.Bitmap.{Marks, pair_of, state_at}
 use Rattle.gds_bitmap.specs.Pairs.{count_below}
-use Rattle.gds_bitmap.proofs.CountLemmas.{count_below-same}
+use Rattle.gds_bitmap.proofs.CountLemmas.{count_below-same, count_below_le}
 use Rattle.gds_header.specs.declared.header.Header.{Header}
 use Rattle.gds_header.specs.Fields.{fields_of}
 use Rattle.gds_header.specs.Kinds.{has_free, header_faults}
@@ -28,21 +28,13 @@ use Rattle.gds_base.proofs.MapLemmas.{fields_now, remarked, right_still}
 
 -- ---- no more than all are free
 
-one_at_most : (b : Bool) → (if b then 1 else 0) ≤ 1
-one_at_most true = omega arith
-one_at_most false = omega arith
-
-all_at_most : (p : ℕ → Bool) (n : ℕ) → count_below p n ≤ n
-all_at_most p zero = omega arith
-all_at_most p (suc n) = omega (arith, one_at_most (p n), all_at_most p n)
-
 pub free_at_most : (image : List ℕ) → IsLawful image → (fields_of image).free ≤ (fields_of image).total
 free_at_most image lawful =
     omega (
       arith,
       lawful.maps.count,
       free_by_blocks image,
-      all_at_most (is_free_block image) (fields_of image).total,
+      count_below_le (is_free_block image) (fields_of image).total,
     )
 
 -- ---- a pair that becomes that of a used and free block
@@ -141,7 +133,8 @@ module _ (image : List ℕ) (draft : DraftState) (n : ℕ) (map : List ℕ) (h :
       let whole : 512 * (n / 512) + n % 512 ≡ n = omega arith in
       let was = (drafted_read image draft is).fields in
       let next : DraftState = record (with_block draft (512 * (n / 512)) map) { header = h } in
-      let still = right_still image draft (n / 512) map h is there size fields new (n % 512) Recycled small marks groups in
+      let still =
+      right_still image draft (n / 512) map h is there size fields new (n % 512) Recycled small marks groups in
       let is_now = subst (λ m. Remarks old now m Recycled h.free) whole
       (remarked image draft (n / 512) map h is there size fields new (n % 512) Recycled small marks groups) in
       recycled old now n h.free is_now (omega (arith, within, ap (λ (g : Header). g.total) was)) no_map

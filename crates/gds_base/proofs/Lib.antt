@@ -9,4 +9,7 @@ pub mod RoomLemmas
 pub mod MomentLemmas
 pub mod CommittedLemmas
 pub mod FreeingLemmas
+pub mod NewMapLemmas
+pub mod GrowingLemmas
+pub mod GrownLemmas
 pub mod FindsLemmas

@@ -7,4 +7,5 @@ pub mod Errors
 pub mod Held
 pub mod Commit
 pub mod Room
+pub mod Reserve
 pub mod Finds

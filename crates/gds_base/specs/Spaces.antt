@@ -19,8 +19,8 @@ pub record TakesLeast (before after : List ℕ) (n : ℕ) : Type 0 where
   pub takes : Takes before after n
   pub lawful : IsLawful after
 
--- A block that is no map has become free, as one that was used, and no more has changed than that asks for. Where it was
--- busy it has become free from that, and lawful maps stay so.
+-- A block that is no map is free, as one that was used, and no other block but its group's map is another. One that was
+-- busy has become free, and lawful maps stay so.
 pub record Recycles (before after : List ℕ) (n : ℕ) : Type 0 where
   pub pair : Marks (map_of before (n / 512)) (map_of after (n / 512)) (n % 512) Recycled
   pub others : (m : ℕ) → m ≢ 512 * (n / 512) → block_of after m ≡ block_of before m

@@ -6,9 +6,11 @@ mod calls;
 mod commit;
 mod error;
 mod groups;
+mod growing;
 mod laws;
 mod plan;
 mod reading;
+mod reserving;
 mod spaces;
 
 pub use base::Base;

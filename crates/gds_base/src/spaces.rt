@@ -1,4 +1,4 @@
-ghost use Rattle.std.specs.Prelude.{◌≡◌, ◌≢◌, ◌*◌, ◌+◌, ◌<◌, ◌%◌, IfOk, OnErr, OnOk, length};
+ghost use Rattle.std.specs.Prelude.{◌≡◌, ◌≢◌, ◌*◌, ◌+◌, ◌<◌, ◌%◌, None, IfOk, OnErr, OnOk, length};
 ghost use Rattle.gds_base.specs.Drafting.{Drafts, IsDraftFor, OnlyDrafts, WithDraft};
 ghost use Rattle.gds_base.specs.Ending.{EndsReading};
 ghost use Rattle.gds_base.specs.Spaces.{IsFirstPlace, Recycles, TakesLeast};
@@ -6,6 +6,7 @@ ghost use Rattle.gds_draft.specs.Draft.{IsDraft, with_block};
 ghost use Rattle.gds_file.specs.FileLaws.{IsLawful};
 ghost use Rattle.gds_law.specs.Maps.{map_of};
 ghost use Rattle.gds_units.specs.Reading.{OnlyRead};
+ghost use Rattle.gds_units.specs.State.{image_of};
 
 use crate::groups::{first_group, free_with, mark_in, present_in};
 use crate::{Base, BaseError};
@@ -109,14 +110,19 @@ impl<H: Host> Base<H> {
     }
 
     // A copy of a group's map.
-    fn copy_map(&mut self, alloc: Global, draft: &Draft, group: u32) -> Result<Vec<u8>, BaseError>
+    pub(crate) fn copy_map(
+        &mut self,
+        alloc: Global,
+        draft: &Draft,
+        group: u32,
+    ) -> Result<Vec<u8>, BaseError>
         requires draft { IsDraftFor self.old.header draft.now }
         requires there { 512 * group < draft.now.header.total }
         ensures map { IfOk result (λ map. WithDraft self.old draft.now (λ file. map.items ≡ map_of file group)) }
         ensures len { IfOk result (λ map. length map.items ≡ self.old.header.block_size) }
         ensures read { OnlyRead H.told H.moment H.failures H.left_since self.old self.new }
         ensures ends { EndsReading (H.failures self.old.host) (H.failures self.new.host)
-            (WithDraft self.old draft.now (λ _. ⊥)) result }
+            (image_of self.old ≡ None) result }
     {
         let _header = draft.header();
         let bytes = self.read(draft, 512 * group)?;

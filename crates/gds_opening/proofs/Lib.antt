@@ -1,0 +1,3 @@
+mod CountingLemmas
+mod CauseLemmas
+mod MomentLemmas
