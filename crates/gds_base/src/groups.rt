@@ -1,10 +1,10 @@
 //! The groups of a file: which has a free block, and how many blocks it has.
-ghost use Rattle.std.specs.Prelude.{◌≡◌, ◌+◌, ◌*◌, ◌-◌, ◌^◌, ◌<◌, ◌≤◌, ℕ, All, IfNone, IfSome, length, min};
+ghost use Rattle.std.specs.Prelude.{◌≡◌, ◌+◌, ◌*◌, ◌^◌, ◌<◌, ◌≤◌, ℕ, All, IfNone, IfSome, length};
 ghost use Rattle.std.specs.Prelude.{if◌then◌else◌, slice_index};
 ghost use Rattle.gds_bitmap.specs.Bitmap.{IsFirstFree, Marks, NoneFree};
 ghost use Rattle.gds_bitmap.specs.State.{is_free};
 ghost use Rattle.gds_header.specs.Kinds.{IsWithinLimits};
-ghost use Rattle.gds_base.specs.Spaces.{HasFreeBelow, IsFirstGroup, NoGroup};
+ghost use Rattle.gds_base.specs.Spaces.{HasFreeBelow, IsFirstGroup, NoGroup, present_in};
 
 use gds_bitmap::{State, first_free, mark};
 use gds_header::Header;
@@ -33,7 +33,7 @@ fn first_marked(bytes: &[u8]) -> Option<usize>
 /// How many blocks a group has.
 pub(crate) fn present_in(header: &Header, group: u32) -> u32
     requires { 512 * group < header.now.total }
-    ensures { result ≡ min (header.now.total - 512 * group) 512 }
+    ensures { result ≡ present_in header.now group }
 {
     (header.total - 512 * group).min(512)
 }
