@@ -1,5 +1,6 @@
 -- Entries that go into pieces: the key that parts them, and the entries of each.
-use Rattle.std.proofs.Common.{◌≡◌, ◌≢◌, ◌≤◌, ◌<◌, ◌+◌, ℕ, zero, suc, List, [], ◌∷◌, ◌++◌, length, take, drop, refl, sym, ap, ◌∙◌}
+use Rattle.std.proofs.Common.{◌≡◌, ◌≢◌, ◌≤◌, ◌<◌, ◌+◌, ℕ, zero, suc, List, [], ◌∷◌, ◌++◌, length, take, drop, refl, sym}
+use Rattle.std.proofs.Common.{ap, ◌∙◌}
 use Rattle.std.proofs.Common.{arith, subst, append_assoc, slice_index_or, slice_set}
 use Rattle.gds_block.specs.Item.{Item}
 use Rattle.gds_pack.specs.Entry.{item, items}
@@ -90,7 +91,8 @@ behind_packable (suc level) run (f ∷ b) p more =
 -- No run is empty.
 pub runs_some : (limit : ℕ) (lengths : List ℕ) (es : List Item) → FitInRuns limit lengths es → es ≢ []
 runs_some limit [] es fits = fits.0
-runs_some limit (k ∷ lengths) [] fits = absurd (runs_some limit lengths [] (subst (FitInRuns limit lengths) (drop-nil k) fits.2) refl)
+runs_some limit (k ∷ lengths) [] fits =
+    absurd (runs_some limit lengths [] (subst (FitInRuns limit lengths) (drop-nil k) fits.2) refl)
 runs_some limit (k ∷ lengths) (e ∷ es) fits = λ none. absurd (let no : e ∷ es ≡ [] = none in cc)
 
 -- the first run and what is behind it
@@ -108,47 +110,45 @@ first_run limit k all lengths es is fits =
 
 -- ---- the entries of the first run, and those behind
 
-module _ (level limit k : ℕ) (all lengths : List ℕ) (list run behind : List Entry) (is : all ≡ k ∷ lengths)
-    (fits : FitInRuns limit all (items list)) (packable : ArePackable level (items list))
-    (front : run ≡ take k list) (rest : behind ≡ drop k list) where
-  first : FirstRun limit k lengths (items list)
-  first = first_run limit k all lengths (items list) is fits
-
-  pub run_items : items run ≡ take k (items list)
-  run_items = ap items front ∙ sym (take-map item k list)
-
-  pub behind_items : items behind ≡ drop k (items list)
-  behind_items = ap items rest ∙ sym (drop-map item k list)
-
-  whole : items run ++ items behind ≡ items list
-  whole = (λ i. run_items i ++ behind_items i) ∙ take-append-drop k (items list)
-
-  pub run_some : items run ≢ []
-  run_some none = first.some (sym run_items ∙ none)
-
-  pub behind_some : items behind ≢ []
-  behind_some none = first.more (sym behind_items ∙ none)
-
-  pub run_within : k ≤ length list
-  run_within = elim (cases_lt (length list) k) [
-    | inl h ↦ absurd (first.more (drop_all k (items list) (omega (arith, length-map list item))))
-    | inr h ↦ h
-  ]
-
+-- What is known of both where they are cut after so many.
+pub record AreCut (level limit k : ℕ) (lengths : List ℕ) (list run behind : List Entry) : Type 0 where
+  pub run_is : items run ≡ take k (items list)
+  pub behind_is : items behind ≡ drop k (items list)
+  pub more : items behind ≢ []
   pub run_fits : packed_size (own_entries level (items run)) ≤ limit
-  run_fits =
-      omega (arith, own_size level (items run), ap packed_size run_items, first.fits)
-
   pub run_packable : ArePackable level (own_entries level (items run))
-  run_packable =
-      own_packable level (items run) (items behind) (subst (ArePackable level) (sym whole) packable) run_some behind_some
-
   pub rest_fits : FitInRuns limit lengths (items behind)
-  rest_fits = subst (FitInRuns limit lengths) (sym behind_items) first.rest
-
   pub rest_packable : ArePackable level (items behind)
-  rest_packable =
-      behind_packable level (items run) (items behind) (subst (ArePackable level) (sym whole) packable) behind_some
+
+pub run_within : (limit k : ℕ) (all lengths : List ℕ) (list : List Entry) → all ≡ k ∷ lengths
+    → FitInRuns limit all (items list) → k ≤ length list
+run_within limit k all lengths list is fits = elim (cases_lt (length list) k) [
+  | inl h ↦ absurd ((first_run limit k all lengths (items list) is fits).more
+      (drop_all k (items list) (omega (arith, length-map list item))))
+  | inr h ↦ h
+]
+
+pub are_cut : (level limit k : ℕ) (all lengths : List ℕ) (list run behind : List Entry) → all ≡ k ∷ lengths
+    → FitInRuns limit all (items list) → ArePackable level (items list) → run ≡ take k list → behind ≡ drop k list
+    → AreCut level limit k lengths list run behind
+are_cut level limit k all lengths list run behind is fits packable front rest =
+    let first = first_run limit k all lengths (items list) is fits in
+    let run_is : items run ≡ take k (items list) = ap items front ∙ sym (take-map item k list) in
+    let behind_is : items behind ≡ drop k (items list) = ap items rest ∙ sym (drop-map item k list) in
+    let whole : items run ++ items behind ≡ items list =
+    (λ i. run_is i ++ behind_is i) ∙ take-append-drop k (items list) in
+    let all_packable : ArePackable level (items run ++ items behind) =
+    subst (ArePackable level) (sym whole) packable in
+    let more : items behind ≢ [] = λ none. first.more (sym behind_is ∙ none) in record {
+      run_is = run_is;
+      behind_is = behind_is;
+      more = more;
+      run_fits = omega (arith, own_size level (items run), ap packed_size run_is, first.fits);
+      run_packable = own_packable level (items run) (items behind) all_packable
+          (λ none. first.some (sym run_is ∙ none)) more;
+      rest_fits = subst (FitInRuns limit lengths) (sym behind_is) first.rest;
+      rest_packable = behind_packable level (items run) (items behind) all_packable more;
+    }
 
 pub some_items : (xs : List Entry) → items xs ≢ [] → 0 < length xs
 some_items [] h = absurd (h refl)

@@ -1,5 +1,6 @@
 -- A block whose entries are put into several.
-use Rattle.std.proofs.Common.{◌≡◌, ◌+◌, ◌-◌, ◌<◌, ◌≤◌, ℕ, List, [], ◌∷◌, ◌++◌, Result, Ok, Err, length, false, refl, sym, ◌∙◌, subst, arith}
+use Rattle.std.proofs.Common.{◌≡◌, ◌+◌, ◌-◌, ◌<◌, ◌≤◌, ℕ, List, [], ◌∷◌, ◌++◌, Result, Ok, Err, length, false, refl}
+use Rattle.std.proofs.Common.{sym, ◌∙◌, subst, arith}
 use Rattle.std.proofs.Common.{Bool, true, inr, inl, length-append, rules, tests}
 use Rattle.std.specs.Prelude.{IfOk, IsTrue, OnOk, nat_eq, nat_lt, ◌==◌, ◌^◌}
 use Rattle.std.specs.List.{IsDistinct}
@@ -50,7 +51,8 @@ kept_distinct before mid (n ∷ []) fresh one busy t =
     (not_among before fresh n (has_block fresh n) refl t.were_free (busy n (search (rules, tests)))) t.distinct
 kept_distinct before mid (n ∷ m ∷ kept) fresh one busy t = absurd (omega arith)
 
-pub divides_by : (before mid after kept fresh lengths numbers : List ℕ) (level size : ℕ) (es : List Item) (parts : Parts)
+pub divides_by : (before mid after kept fresh lengths numbers : List ℕ) (level size : ℕ) (es : List Item)
+    (parts : Parts)
     → IsLawful before → AreAllBusy before kept → length kept ≤ 1 → TakesAll before mid fresh
     → numbers ≡ kept ++ fresh → length lengths ≤ 2 → length fresh ≡ length lengths + 1 - length kept
     → (fields_of before).block_size ≡ size → FitInRuns size lengths es

@@ -1,5 +1,6 @@
 -- One index block is told of the parts of its child.
-use Rattle.std.proofs.Common.{◌≡◌, ◌≢◌, ◌+◌, ◌<◌, ◌≤◌, ℕ, suc, List, [], ◌∷◌, ◌++◌, length, drop, Bool, None, true, refl, sym, ap, ◌∙◌, subst, arith}
+use Rattle.std.proofs.Common.{◌≡◌, ◌≢◌, ◌+◌, ◌<◌, ◌≤◌, ℕ, suc, List, [], ◌∷◌, ◌++◌, length, drop, Bool, None, true}
+use Rattle.std.proofs.Common.{refl, sym, ap, ◌∙◌, subst, arith}
 use Rattle.std.proofs.Common.{rules, tests}
 use Rattle.std.specs.Prelude.{All, IsTrue, nat_eq, ◌||◌}
 use Rattle.std.proofs.Math.Bool.{or-true}
@@ -217,8 +218,8 @@ module _ (file : List ℕ) (root : Visit) (a : Ancestor) (child : Visit) (level 
         past = omega (arith, had_some d.writes.mid t.lawful, ap (λ (h : Header). h.tn) same);
         small = omega arith;
       } in
-      let has = raised_root_is_there file r.mid after root a.visit level es under own may into writes rewrites low packed
-      in
+      let has = raised_root_is_there file r.mid after root a.visit level es under own may into writes rewrites low
+      packed in
       ancestor_becomes file after root a [] child level pieces below p.parted
       (root_is_raised file r.mid after root a.visit level es under own may into writes rewrites has)
 
@@ -248,7 +249,8 @@ module _ (file : List ℕ) (root : Visit) (a : Ancestor) (child : Visit) (level 
       }
 
   -- Of the highest level, it can't be raised.
-  pub too_deep : 7 ≤ suc level → (fields_of file).block_size < packed_size es → IsTooDeep (fields_of file) (a ∷ []) level
+  pub too_deep : 7 ≤ suc level → (fields_of file).block_size < packed_size es
+      → IsTooDeep (fields_of file) (a ∷ []) level
   too_deep high more =
       let due : IsDueLevel a.visit.level (suc level) = may.due in
       let none : a.visit.level ≡ None = ap (λ (v : Visit). v.level) p.parted.lead.1 ∙ p.parted.is_root.level in

@@ -30,7 +30,8 @@ whole_if key o n short within is =
 pub not_whole : (key : List ℕ) (o : Option ℕ) → length key ≤ 255
     → key_within 255 ([] ++ key) ≡ option_map (λ n. 0 + n) o → o ≡ None
     → IsKey key → ⊥
-not_whole key o short within is k = absurd (let no : None ≡ Some (length key) = sym (len_is key o short within ∙ is) ∙ k.whole in cc)
+not_whole key o short within is k =
+    absurd (let no : None ≡ Some (length key) = sym (len_is key o short within ∙ is) ∙ k.whole in cc)
 
 -- An entry whose key isn't the next one is none of an index block, but for the last.
 not_first : (previous : List ℕ) (e : Entry) (es : List Entry) → 0 < length es

@@ -1,5 +1,6 @@
 -- Parts that are told upwards, one index block after another.
-use Rattle.std.proofs.Common.{◌≡◌, ◌+◌, ◌≤◌, ℕ, suc, Bool, false, List, [], ◌∷◌, ◌++◌, length, refl, sym, ap, ◌∙◌, arith}
+use Rattle.std.proofs.Common.{◌≡◌, ◌+◌, ◌≤◌, ℕ, suc, Bool, false, List, [], ◌∷◌, ◌++◌, length, refl, sym, ap, ◌∙◌}
+use Rattle.std.proofs.Common.{arith}
 use Rattle.std.proofs.Common.{length-append, rules, tests}
 use Rattle.std.specs.Prelude.{◌==◌}
 use Rattle.std.proofs.lemmas.Bool.{false≢true}
@@ -73,7 +74,8 @@ is_to_tell file root a above child level pieces below steps outer step top parts
       block = l.block;
       place = l.place;
       at_top = none_if above (length outer) top
-          (sym (length-map outer (λ (s : Step). (s.block, s.offset))) ∙ ap length l.outer_lead ∙ steps_long above) empty;
+          (sym (length-map outer (λ (s : Step). (s.block, s.offset))) ∙ ap length l.outer_lead ∙ steps_long above)
+          empty;
       told = p.told;
     }
 

@@ -15,7 +15,8 @@ use Rattle.gds_header.specs.Fields.{block_of, fields_of}
 use Rattle.gds_header.specs.declared.header.Header.{Header}
 use Rattle.gds_pack.specs.Packable.{ArePackable}
 use Rattle.gds_pack.specs.Packed.{block_bytes}
-use Rattle.gds_split.specs.Pieces.{IsWritten, Piece, entries_in, entry_to, key_above, numbers_of, own_entries, parting_key}
+use Rattle.gds_split.specs.Pieces.{IsWritten, Piece, entries_in, entry_to, key_above, numbers_of, own_entries}
+use Rattle.gds_split.specs.Pieces.{parting_key}
 use Rattle.gds_split.specs.Pieces.{pieces_above}
 use Rattle.gds_split.proofs.CutLemmas.{own_whole}
 use Rattle.gds_splice.specs.Parts.{above_parts, part_entry, pieces_of}
@@ -45,7 +46,8 @@ entries_are (k ∷ lengths) (n ∷ numbers) es count =
 pub pieces_long : (lengths numbers : List ℕ) (es : List Item) → length numbers ≡ length lengths + 1
     → length (pieces_of lengths numbers es) ≡ length numbers
 pieces_long lengths numbers es count =
-    sym (length-map (pieces_of lengths numbers es) (λ (p : Piece). p.number)) ∙ ap length (numbers_are lengths numbers es count)
+    sym (length-map (pieces_of lengths numbers es) (λ (p : Piece). p.number))
+    ∙ ap length (numbers_are lengths numbers es count)
 
 -- the key above a piece that has others behind it
 key_parting : (level : ℕ) (p : Piece) (pieces : List Piece) (key : List ℕ) (es : List Item) → 0 < length pieces
@@ -56,7 +58,8 @@ key_parting level p (q ∷ pieces) key es some whole = ap (parting_key level p.e
 pub first_above : (level k : ℕ) (lengths : List ℕ) (n : ℕ) (numbers : List ℕ) (es : List Item) (key : List ℕ)
     → length numbers ≡ length lengths + 1
     → pieces_above level (pieces_of (k ∷ lengths) (n ∷ numbers) es) key
-    ≡ entry_to n (parting_key level (take k es) (drop k es)) ∷ pieces_above level (pieces_of lengths numbers (drop k es)) key
+    ≡ entry_to n (parting_key level (take k es) (drop k es))
+    ∷ pieces_above level (pieces_of lengths numbers (drop k es)) key
 first_above level k lengths n numbers es key count =
     let pieces : List Piece = pieces_of lengths numbers (drop k es) in
     ap (λ key'. entry_to n key' ∷ pieces_above level pieces key)
@@ -172,7 +175,8 @@ pub parts_more : (level k : ℕ) (all lengths numbers : List ℕ) (es run behind
     ≡ above_parts old key
     → new.last ≡ old.last → new.parted.items ≡ p ∷ old.parted.items
     → pieces_above level (pieces_of all numbers es) key ≡ above_parts new key
-parts_more level k all lengths numbers es run behind key old new p is count run_is behind_is block key_is rest last parted =
+parts_more level k all lengths numbers es run behind key old new p is count run_is behind_is block key_is rest last
+    parted =
     first_part level k all lengths numbers es key is count
     ∙ (λ i. entry_to (sym block i) ((ap (λ xs. parting_key level xs (drop k es)) (sym run_is)
     ∙ ap (parting_key level run) (sym behind_is) ∙ sym key_is) i)

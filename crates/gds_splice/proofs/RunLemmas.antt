@@ -1,5 +1,6 @@
 -- Entries that are cut into runs, and the places of their records.
-use Rattle.std.proofs.Common.{◌≡◌, ◌≢◌, ◌≤◌, ◌<◌, ◌+◌, ℕ, suc, List, [], ◌∷◌, ◌++◌, length, drop, take, sym, ap, ◌∙◌, arith, subst}
+use Rattle.std.proofs.Common.{◌≡◌, ◌≢◌, ◌≤◌, ◌<◌, ◌+◌, ℕ, suc, List, [], ◌∷◌, ◌++◌, length, drop, take, sym, ap, ◌∙◌}
+use Rattle.std.proofs.Common.{arith, subst}
 use Rattle.std.proofs.Common.{◌-◌, length-append, length-drop, refl, inl, inr}
 use Rattle.std.proofs.Math.Seq.{take-append_seam}
 use Rattle.std.proofs.lemmas.Bool.{cases_lt}
@@ -69,7 +70,8 @@ module _ (limit first : ℕ) (list : List Entry) (front : Fitting limit first li
   pub less : (n : ℕ) → first < length list → CanBeCut (suc n) limit (items list)
       → CanBeCut n limit (items (drop first list))
   less n more can =
-      subst (CanBeCut n limit) (drop-map item first list) (CanBeCut-rest n limit first (items list) can (most_first more))
+      subst (CanBeCut n limit) (drop-map item first list)
+      (CanBeCut-rest n limit first (items list) can (most_first more))
 
   pub none_left : (n : ℕ) → first ≡ 0 → 0 < length list → CanBeCut n limit (items list) → ⊥
   none_left n none some can =
@@ -110,7 +112,8 @@ pub rest_whole : {A : Type 0} (k : ℕ) (xs : List A) → take (length xs - k) (
 rest_whole k xs = take_all (length xs - k) (drop k xs) (omega (arith, length-drop k xs))
 
 -- Each record takes some bytes, so only one front of entries takes so many.
-pub packed_size-more : (es : List Item) (m n : ℕ) → m < n → n ≤ length es → packed_size (take m es) < packed_size (take n es)
+pub packed_size-more : (es : List Item) (m n : ℕ) → m < n → n ≤ length es
+    → packed_size (take m es) < packed_size (take n es)
 packed_size-more es m n fewer within =
     let there : m + (n - m) ≡ n = omega arith in
     let parts : take n es ≡ take m es ++ take (n - m) (drop m es) =

@@ -1,5 +1,6 @@
 -- Free blocks that are taken in a draft one after another.
-use Rattle.std.proofs.Common.{◌≡◌, ◌+◌, ◌<◌, ℕ, Option, List, [], ◌∷◌, ◌++◌, length, refl, ap, ◌∙◌, subst, arith, length-append}
+use Rattle.std.proofs.Common.{◌≡◌, ◌+◌, ◌<◌, ℕ, Option, List, [], ◌∷◌, ◌++◌, length, refl, ap, ◌∙◌, subst, arith}
+use Rattle.std.proofs.Common.{length-append}
 use Rattle.std.specs.Prelude.{All}
 use Rattle.std.proofs.lemmas.List.Elements.{All-push}
 use Rattle.host_model.specs.Failures.{Failures}
@@ -48,7 +49,8 @@ module _ {H : Type 0} (told : H → Option Contents) (moment : H → ℕ) (count
   taken_one_more a b c x y z count numbers n has takes low one only = record {
     taken = λ image is lawful.
         let so_far = has.taken image is lawful in
-        let least = takes image (same_image told moment counts left_since a b has.drafts.read ∙ is) so_far.lawful in record {
+        let least = takes image (same_image told moment counts left_since a b has.drafts.read ∙ is) so_far.lawful in
+        record {
           all = takes_more (drafted x image) (drafted y image) (drafted z image) numbers n so_far.all least.free
               least.takes least.lawful;
           lawful = least.lawful;

@@ -29,5 +29,6 @@ pub can_read : (file : List ℕ) (step : Step) (parts : Parts)
     → (step.block < (fields_of file).total → CannotRead file step.block) → CannotTell step parts file
 can_read file step parts cannot v level front e back to packable =
     cannot (subst (λ n. n < (fields_of file).total) to.block to.has.there) (front ++ e ∷ back)
-    (subst (λ n. IsBlock (block_of file n)) to.block (is_block_at file v (suc level) (front ++ e ∷ back) to.image to.has))
+    (subst (λ n. IsBlock (block_of file n)) to.block
+    (is_block_at file v (suc level) (front ++ e ∷ back) to.image to.has))
     (ap (λ n. entries_of (block_of file n)) (sym to.block) ∙ to.has.right.found)

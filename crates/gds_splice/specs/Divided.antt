@@ -35,8 +35,8 @@ pub record MayPut (h : Header) (level : ℕ) (es : List Item) : Type 0 where
   pub packable : ArePackable level es
   pub fits : packed_size es ≤ h.block_size
 
--- A root with these entries can't go into pieces in free blocks: the maps aren't lawful, three pieces don't suffice, fewer
--- than three blocks are free, or the root can't lead to the pieces.
+-- A root with these entries can't go into pieces in free blocks: the maps aren't lawful, three pieces don't suffice,
+-- fewer than three blocks are free, or the root can't lead to the pieces.
 abbrev pub CannotRaise : ℕ → List Item → List ℕ → Type 0
 CannotRaise level es file =
     IsLawful file → FitInThree (fields_of file).block_size es → 3 ≤ (fields_of file).free

@@ -22,8 +22,8 @@ pub record IsToPart (file : List ℕ) (root : Visit) (a : Ancestor) (above : Lis
   pub leads : steps_of steps ≡ steps_to (a ∷ above)
   pub told : pieces_above level pieces a.entry.key ≡ above_parts parts a.entry.key
 
--- Whichever child that is, the tree of the root is sound afterwards, with the same items: with the pieces in the place of
--- the child, and with the blocks that the ancestors went into.
+-- Whichever child that is, the tree of the root is sound afterwards, with the same items. The old blocks are the pieces
+-- of the child, what stands below them, and the outer blocks.
 abbrev pub PartsUpwards : List Step → Parts → List ℕ → List ℕ → Type 0
 PartsUpwards steps parts before after =
     (root : Visit) (a : Ancestor) (above : List Ancestor) (child : Visit) (level : ℕ) (pieces : List Piece)

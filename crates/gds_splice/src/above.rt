@@ -1,6 +1,6 @@
 //! The entries above that lead to the blocks that a block has gone into.
-ghost use Rattle.std.specs.Prelude.{◌≡◌, ◌+◌, ◌<◌, ◌++◌, ◌∷◌, IfNone, IfOk, IfSome, List, OnOk, ◌≤◌, length, drop, take};
-ghost use Rattle.std.specs.Prelude.{slice_index_or};
+ghost use Rattle.std.specs.Prelude.{◌≡◌, ◌+◌, ◌<◌, ◌≤◌, ◌++◌, ◌∷◌, IfNone, IfOk, IfSome, OnOk};
+ghost use Rattle.std.specs.Prelude.{List, length, drop, take, slice_index_or};
 ghost use Rattle.gds_block.specs.Item.{Item};
 ghost use Rattle.gds_pack.specs.Entry.{item, items};
 ghost use Rattle.gds_pack.specs.Packable.{ArePackable};

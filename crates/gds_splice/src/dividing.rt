@@ -19,8 +19,8 @@ use gds_draft::Draft;
 use host_model::Host;
 use std::alloc::Global;
 
-/// Puts the entries of a block into pieces, as few as they fit: the first of them in the block that is kept, if any, and
-/// the others in free blocks. `Changed` comes where three pieces don't suffice.
+/// Puts the entries of a block into pieces, as few as they fit: the first of them in the block that is kept, if any,
+/// and the others in free blocks. `Changed` comes where three pieces don't suffice or too few blocks are free.
 pub fn divide<H: Host>(
     alloc: Global,
     base: &mut Base<H>,

@@ -50,7 +50,8 @@ pub fn read_node<H: Host>(
 
 /// The level and the entries of a block, where they can be read.
 fn unpack_node(alloc: Global, bytes: &[u8]) -> Result<Option<Node>, AllocError>
-    ensures some { IfOk result (λ found. IfSome found (λ node. (level_of bytes.now ≡ node.level) × (entries_of bytes.now ≡ Some (items node.entries.items)))) }
+    ensures some { IfOk result (λ found. IfSome found (λ node. (level_of bytes.now ≡ node.level)
+        × (entries_of bytes.now ≡ Some (items node.entries.items)))) }
     ensures none { IfOk result (λ found. IfNone found (IsBlock bytes.now → entries_of bytes.now ≡ None)) }
 {
     let Some(view) = BlockView::new(bytes) else {

@@ -15,8 +15,8 @@ use gds_pack::packed_size;
 use host_model::Host;
 use std::alloc::Global;
 
-/// Tells one index block, which is the root or isn't, of the parts of a child. Where it has no room for the entries that
-/// lead to them it goes into parts itself, which the one above has to be told of, and a root is raised.
+/// Tells one index block, which is the root or isn't, of the parts of a child. Where it has no room for the entries
+/// that lead to them it goes into parts itself, of which the one above has to be told, and a root is raised.
 pub(crate) fn tell_one<H: Host>(
     alloc: Global,
     base: &mut Base<H>,

@@ -8,8 +8,8 @@ use arrayvec::ArrayVec;
 use gds_pack::{Entry, packed_size};
 use m_key::shared_len;
 
-/// The lengths of all runs but the last into which entries go, up to three, that fit a block of `limit` bytes each. Each
-/// but the last has as many entries as fit.
+/// The lengths of all but the last of up to three runs of entries that fit a block of `limit` bytes each. Each but the
+/// last has as many entries as fit.
 pub(crate) fn cut(entries: &[Entry], limit: u32) -> Option<ArrayVec<usize, 2>>
     requires { 16 ≤ limit }
     ensures some { IfSome result (λ lengths. FitInRuns limit lengths.items (items entries.now)) }
