@@ -36,6 +36,7 @@ fn words_have_their_answers(rt: HostRuntime) -> Result<(), Fail> {
         ("small letters", &["Version"], "GDSPROF1\n", 0),
         ("no words", &[], "BADWORDS 0\n", 7),
         ("no command", &["VERIFY", "-FAST"], "BADWORDS 0\n", 7),
+        ("not built yet", &["CREATE", "-KEY=3"], "BADWORDS 0\n", 7),
         ("word too many", &["INTEG", "-FAST"], "BADWORDS 1\n", 7),
         ("stamp", &["extract", "-stamp=x y~"], "NOTBUILT\n", 22),
         ("empty stamp", &["EXTRACT", "-STAMP="], "NOTBUILT\n", 22),

@@ -9,9 +9,9 @@ use Rattle.host_model.specs.Failures.{Failures, NoneRose}
 use Rattle.host_model.specs.Told.{TellsOn}
 use Rattle.m_key.specs.Globals.{Globals}
 use Rattle.m_text.specs.Extract.{zwr}
-use Rattle.gds_cli.specs.declared.words.Command.{Command}
-use Rattle.gds_cli.specs.declared.words.Command.TheVariants.{Version, Integ, Extract}
-use Rattle.gds_cli.specs.declared.words.BadWords.{BadWords}
+use Rattle.gds_words.specs.declared.words.Command.{Command}
+use Rattle.gds_words.specs.declared.words.Command.TheVariants.{Version, Integ, Extract, Create, Run}
+use Rattle.gds_words.specs.declared.words.BadWords.{BadWords}
 use Rattle.gds_cli.specs.declared.status.Status.{Status}
 use Rattle.gds_cli.specs.declared.status.Status.TheVariants as ended
 use Rattle.gds_cli.specs.Status.{HasCause}
@@ -53,6 +53,8 @@ some_list image = let found = (one_fault_list image).0 in (list_reply found.0, (
 pub one_due : (command : Result Command BadWords) (c : Contents) (r s : Reply) → Due command c r → Due command c s
     → r ≡ s
 one_due (Err bad) c r s p q = p ∙ sym q
+one_due (Ok (Create block key value alloc ext limit)) c r s p q = p ∙ sym q
+one_due (Ok Run) c r s p q = p ∙ sym q
 one_due (Ok Version) c r s p q = p ∙ sym q
 one_due (Ok Integ) c r s p q = one_list c.db r s p q
 one_due (Ok (Extract stamp)) c r s p q = one_extract stamp.items c r s p q
@@ -60,6 +62,8 @@ one_due (Ok (Extract stamp)) c r s p q = one_extract stamp.items c r s p q
 -- it can't be that no reply is due
 pub some_due : (command : Result Command BadWords) (c : Contents) → ((reply : Reply) → Due command c reply → ⊥) → ⊥
 some_due (Err bad) c none = none _ refl
+some_due (Ok (Create block key value alloc ext limit)) c none = none _ refl
+some_due (Ok Run) c none = none _ refl
 some_due (Ok Version) c none = none _ refl
 some_due (Ok Integ) c none = let found = some_list c.db in none found.0 found.1
 some_due (Ok (Extract stamp)) c none =

@@ -9,9 +9,9 @@ use Rattle.m_key.specs.Globals.{Globals}
 use Rattle.m_text.specs.Extract.{zwr}
 use Rattle.gds_cli.specs.FaultText.{fault_text}
 use Rattle.gds_cli.specs.Thin.{IsThinWith}
-use Rattle.gds_cli.specs.declared.words.Command.{Command}
-use Rattle.gds_cli.specs.declared.words.Command.TheVariants.{Version, Integ, Extract}
-use Rattle.gds_cli.specs.declared.words.BadWords.{BadWords}
+use Rattle.gds_words.specs.declared.words.Command.{Command}
+use Rattle.gds_words.specs.declared.words.Command.TheVariants.{Version, Integ, Extract, Create, Run}
+use Rattle.gds_words.specs.declared.words.BadWords.{BadWords}
 use Rattle.gds_cli.specs.declared.status.Status.{Status}
 use Rattle.gds_cli.specs.declared.status.Status.TheVariants as ended
 
@@ -46,9 +46,16 @@ ExtractDue stamp c reply =
     ((m : Globals) × IsThinWith c.db c.images m × (reply ≡ record { text = zwr m stamp; status = ended.Done }))
     ⊎ (((m : Globals) → IsThinWith c.db c.images m → ⊥) × (reply ≡ not_built))
 
--- what is due for the words over what the host holds
+-- The word at this place, counted from 0, is the first that fits no command.
+abbrev pub bad_words : ℕ → Reply
+bad_words place = record { text = line (codes "BADWORDS " ++ decimal place); status = ended.BadWords }
+
+-- What is due for the words over what the host holds. CREATE and RUN aren't built yet: words that are one of them are
+-- bad words, and the first doesn't fit.
 abbrev pub Due : Result Command BadWords → Contents → Reply → Type 0
-Due (Err bad) c reply = reply ≡ record { text = line (codes "BADWORDS " ++ decimal bad.place); status = ended.BadWords }
+Due (Err bad) c reply = reply ≡ bad_words bad.place
+Due (Ok (Create block key value alloc ext limit)) c reply = reply ≡ bad_words 0
+Due (Ok Run) c reply = reply ≡ bad_words 0
 Due (Ok Version) c reply = reply ≡ record { text = line (codes "GDSPROF1"); status = ended.Done }
 Due (Ok Integ) c reply = FaultsDue c.db reply
 Due (Ok (Extract stamp)) c reply = ExtractDue stamp.items c reply
@@ -59,6 +66,10 @@ abbrev pub MayEnd : Result Command BadWords → Status → Type 0
 MayEnd command ended.SayFault = Unit {0}
 MayEnd (Err bad) ended.BadWords = Unit {0}
 MayEnd (Err bad) ended.Memory = Unit {0}
+MayEnd (Ok (Create block key value alloc ext limit)) ended.BadWords = Unit {0}
+MayEnd (Ok (Create block key value alloc ext limit)) ended.Memory = Unit {0}
+MayEnd (Ok Run) ended.BadWords = Unit {0}
+MayEnd (Ok Run) ended.Memory = Unit {0}
 MayEnd (Ok Version) ended.Done = Unit {0}
 MayEnd (Ok Integ) ended.Unsound = Unit {0}
 MayEnd (Ok Integ) ended.Done = Unit {0}
@@ -75,6 +86,8 @@ MayEnd command other = ⊥
 -- the commands that read no file, so that they ask the host for their saying alone
 abbrev pub ReadsNoFile : Result Command BadWords → Type 0
 ReadsNoFile (Err bad) = Unit {0}
+ReadsNoFile (Ok (Create block key value alloc ext limit)) = Unit {0}
+ReadsNoFile (Ok Run) = Unit {0}
 ReadsNoFile (Ok Version) = Unit {0}
 ReadsNoFile (Ok Integ) = ⊥
 ReadsNoFile (Ok (Extract stamp)) = ⊥

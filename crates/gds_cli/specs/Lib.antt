@@ -1,5 +1,4 @@
 pub mod Status
-pub mod Words
 pub mod Thin
 pub mod Trouble
 pub mod SoundHeader

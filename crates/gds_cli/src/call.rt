@@ -4,7 +4,7 @@ ghost use Rattle.host_model.specs.Failures.{NoneRose, counted};
 ghost use Rattle.host_model.specs.Files.{saying};
 ghost use Rattle.host_model.specs.Frames.{WasUsed};
 ghost use Rattle.gds_sound.specs.Sound.{HasOneMap};
-ghost use Rattle.gds_cli.specs.Words.{command_in};
+ghost use Rattle.gds_words.specs.Words.{command_in};
 ghost use Rattle.gds_cli.specs.Status.{HasCause};
 ghost use Rattle.gds_cli.specs.Answer.{Reply, Due, Ends, ExtractDue, MayEnd, ReadsNoFile};
 
@@ -12,7 +12,7 @@ use crate::fault_list::tell_faults;
 use crate::saying::say;
 use crate::status::Status;
 use crate::thin::{self, Trouble};
-use crate::words::{BadWords, Command, read_words};
+use gds_words::{BadWords, Command, read_words};
 use host_model::{Host, Source};
 use std::alloc::Global;
 
@@ -81,13 +81,33 @@ fn answer<H: Host>(alloc: Global, words: &[String], mut host: H) -> (Status, H)
             let status = extract(alloc, &mut host, &stamp);
             (status, host)
         }
-        Err(BadWords { place }) => match format!(in alloc; "BADWORDS {place}\n") {
-            Ok(text) => {
-                let status = say(&mut host, text.as_str(), Status::BadWords);
-                (status, host)
-            }
-            Err(_) => (Status::Memory, host),
-        },
+        // These two aren't built yet: their names don't fit.
+        Ok(Command::Create { .. }) => {
+            let status = say_bad_words(alloc, &mut host, 0);
+            (status, host)
+        }
+        Ok(Command::Run) => {
+            let status = say_bad_words(alloc, &mut host, 0);
+            (status, host)
+        }
+        Err(BadWords { place }) => {
+            let status = say_bad_words(alloc, &mut host, place);
+            (status, host)
+        }
+    }
+}
+
+/// Says the place of the first word that fits no command.
+fn say_bad_words<H: Host>(alloc: Global, host: &mut H, place: usize) -> Status
+    ensures host { WasUsed H.told H.failures host.old host.new (λ before after.
+        Ends (Due (Err (record { place = place })) before) result before after) }
+    ensures status { MayEnd (Err (record { place = place })) result }
+    ensures cause { HasCause result (H.failures host.old) (H.failures host.new) }
+    ensures one_call { result ≢ Status.Memory → H.moment host.new ≡ counted (H.moment host.old) }
+{
+    match format!(in alloc; "BADWORDS {place}\n") {
+        Ok(text) => say(host, text.as_str(), Status::BadWords),
+        Err(_) => Status::Memory,
     }
 }
 

@@ -4,7 +4,7 @@ ghost use Rattle.std.specs.String.{string_bytes};
 ghost use Rattle.host_model.specs.Failures.{NeverFell, Rose};
 ghost use Rattle.host_model.specs.Frames.{WasUsed};
 ghost use Rattle.gds_sound.specs.Sound.{HasOneMap};
-ghost use Rattle.gds_cli.specs.declared.words.Command.TheVariants.{Integ};
+ghost use Rattle.gds_words.specs.declared.words.Command.TheVariants.{Integ};
 ghost use Rattle.gds_cli.specs.Status.{HasCause};
 ghost use Rattle.gds_cli.specs.Answer.{Answers, Ends, FaultsDue, MayEnd, list_reply, list_status};
 ghost use Rattle.gds_cli.specs.Extract.{SaidOf, SaysOn};

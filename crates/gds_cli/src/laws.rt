@@ -1,7 +1,7 @@
 ghost use Rattle.std.specs.Prelude.{◌≡◌, Result};
 ghost use Rattle.host_model.specs.Files.{Contents};
-ghost use Rattle.gds_cli.specs.declared.words.Command.{Command};
-ghost use Rattle.gds_cli.specs.declared.words.BadWords.{BadWords};
+ghost use Rattle.gds_words.specs.declared.words.Command.{Command};
+ghost use Rattle.gds_words.specs.declared.words.BadWords.{BadWords};
 ghost use Rattle.gds_cli.specs.Answer.{Reply, Due};
 
 /// A law, with nothing to do: for what the words ask and what a host holds no two replies are due, and it can't be that

@@ -8,9 +8,7 @@ mod laws;
 mod saying;
 mod status;
 mod thin;
-mod words;
 
 pub use call::{Ended, gds};
 pub use laws::one_reply;
 pub use status::Status;
-pub use words::{BadWords, Command, read_words};

@@ -73,12 +73,13 @@ AllNodes ss = AllByRecursion IsSubscript ss
 -- what the firsts of two lists at one place have in common
 record Agree (fs gs : NodeSubscript) (f g : List NodeSubscript) (rest rest' : List ℕ) : Type 0 where
   spelt : spelled fs ≡ spelled gs
-  others : ((f ≡ []) × (g ≡ [])) ⊎ ((m : List ℕ) × ListStandsAt m f rest × ListStandsAt m g rest')
+  others : ((f ≡ []) × (g ≡ []) × (rest ≡ rest')) ⊎ ((m : List ℕ) × ListStandsAt m f rest × ListStandsAt m g rest')
 
 both_end : (text : List ℕ) (s t : NodeSubscript) (f g : List NodeSubscript) (rest rest' : List ℕ)
     → StandsAt text s (41 ∷ rest) → f ≡ [] → StandsAt text t (41 ∷ rest') → g ≡ [] → Agree s t f g rest rest'
 both_end text s t f g rest rest' x p y q =
-    record { spelt = (one_stands text (41 ∷ rest) (41 ∷ rest') s t refl refl x y).0; others = inl (p, q) }
+    let both = one_stands text (41 ∷ rest) (41 ∷ rest') s t refl refl x y in
+    record { spelt = both.0; others = inl (p, q, tail_of 41 41 rest rest' both.1) }
 
 heads_differ : (xs ys : List ℕ) → 41 ∷ xs ≡ 44 ∷ ys → ⊥
 heads_differ xs ys e = cc
@@ -119,10 +120,10 @@ firsts_agree text ss ts rest rest' f g =
 
 others_same : (f g : List NodeSubscript) (rest rest' : List ℕ) → AllNodes g
     → ((m : List ℕ) (us : List NodeSubscript) → AllNodes us → ListStandsAt m f rest → ListStandsAt m us rest' → f ≡ us)
-    → ((f ≡ []) × (g ≡ [])) ⊎ ((m : List ℕ) × ListStandsAt m f rest × ListStandsAt m g rest') → f ≡ g
+    → ((f ≡ []) × (g ≡ []) × (rest ≡ rest')) ⊎ ((m : List ℕ) × ListStandsAt m f rest × ListStandsAt m g rest') → f ≡ g
 others_same f g rest rest' k again a =
     ⊎_elim
-    (λ (x : (f ≡ []) × (g ≡ [])). x.0 ∙ sym x.1)
+    (λ (x : (f ≡ []) × (g ≡ []) × (rest ≡ rest')). x.0 ∙ sym x.1)
     (λ (x : (m : List ℕ) × ListStandsAt m f rest × ListStandsAt m g rest'). again x.0 g k x.1 x.2)
     a
 
@@ -163,6 +164,27 @@ one_list one text (s ∷ ss) ts rest rest' h k a b =
     let g = first_of_list text ts rest' b in
     list_same one text s ss ts rest rest' h k (λ m us j x y. one_list one m ss us rest rest' h.1 j x y)
     (first_of_list text (s ∷ ss) rest a) g
+
+ends_same : (f g : List NodeSubscript) (rest rest' : List ℕ)
+    → ((m : List ℕ) → ListStandsAt m f rest → ListStandsAt m g rest' → rest ≡ rest')
+    → ((f ≡ []) × (g ≡ []) × (rest ≡ rest')) ⊎ ((m : List ℕ) × ListStandsAt m f rest × ListStandsAt m g rest')
+    → rest ≡ rest'
+ends_same f g rest rest' again a =
+    ⊎_elim
+    (λ (x : (f ≡ []) × (g ≡ []) × (rest ≡ rest')). x.2)
+    (λ (x : (m : List ℕ) × ListStandsAt m f rest × ListStandsAt m g rest'). again x.0 x.1 x.2)
+    a
+
+-- subscripts and a ')' that stand at one place end at one place
+pub one_end : (text : List ℕ) (ss ts : List NodeSubscript) (rest rest' : List ℕ) → ListStandsAt text ss rest
+    → ListStandsAt text ts rest' → rest ≡ rest'
+one_end text [] ts rest rest' a b = none_first text rest (first_of_list text [] rest a)
+one_end text (s ∷ ss) ts rest rest' a b =
+    let f = first_of_list text (s ∷ ss) rest a in
+    let g = first_of_list text ts rest' b in
+    let agree =
+    agree_at s g.s ss f.others g.others f.s rest rest' f.are (firsts_agree text (s ∷ ss) ts rest rest' f g) in
+    ends_same ss g.others rest rest' (λ m x y. one_end m ss g.others rest rest' x y) agree.others
 
 -- a text that is a bare name, or has subscripts
 record IsBareText (text : List ℕ) (node : Node) : Type 0 where

@@ -1,4 +1,4 @@
-//! The tests of `m_number`, `m_key` and `m_text`.
+//! The tests of `m_number`, `m_key`, `m_text` and `gds_words`.
 #![tactic(auto)]
 
 #[cfg(test)]
@@ -8,4 +8,8 @@ mod numbers;
 #[cfg(test)]
 mod parts;
 #[cfg(test)]
+mod script;
+#[cfg(test)]
 mod texts;
+#[cfg(test)]
+mod words;

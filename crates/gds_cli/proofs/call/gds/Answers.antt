@@ -1,4 +1,4 @@
-use Rattle.gds_cli.specs.Words.{command_in}
+use Rattle.gds_words.specs.Words.{command_in}
 use Rattle.gds_cli.specs.Answer.{Due}
 use Rattle.gds_cli.proofs.DueLemmas.{complete}
 use Rattle.gds_cli.proofs.call.gds.Goals as goal

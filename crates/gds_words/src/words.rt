@@ -1,8 +1,9 @@
-ghost use Rattle.std.specs.Prelude.{◌≡◌, true, false, MatchOption, drop, map, string_bytes};
+ghost use Rattle.std.specs.Prelude.{◌≡◌, true, false, IfOk, MatchOption, drop, map, string_bytes};
 ghost use Rattle.std.specs.List.{list_all};
 ghost use Rattle.m_text.specs.Written.{is_printable};
-ghost use Rattle.gds_cli.specs.Words.{command_in, alone, extract_of, leads_stamp, stamp_of};
+ghost use Rattle.gds_words.specs.Words.{MakesHeader, command_in, alone, extract_of, leads_stamp, stamp_of};
 
+use crate::create::read_create;
 use arrayvec::ArrayVec;
 use thiserror::Error;
 
@@ -20,7 +21,26 @@ pub enum Command {
     /// The faults of the database file.
     Integ,
     /// The nodes that the files stand for, as a text with this stamp in its second line.
-    Extract { stamp: ArrayVec<u8, STAMP_MAX> },
+    Extract {
+        stamp: ArrayVec<u8, STAMP_MAX>,
+    },
+    /// A new database with these numbers.
+    Create {
+        /// The size of a block.
+        block: u32,
+        /// The most bytes of a key.
+        key: u32,
+        /// The most bytes of a value.
+        value: u32,
+        /// How many blocks the file has at first.
+        alloc: u32,
+        /// By how many blocks it grows.
+        ext: u32,
+        /// The most blocks that it may have.
+        limit: u32,
+    },
+    /// The lines of a script, one after another.
+    Run,
 }
 
 /// The words are no command. `place` is that of the first word that no command goes on with, counted
@@ -33,7 +53,8 @@ pub struct BadWords {
 
 /// The command that the words name. Letters of its name and of a qualifier's may have any case.
 pub fn read_words(words: &[String]) -> Result<Command, BadWords>
-    ensures { result ≡ command_in words.now }
+    ensures command { result ≡ command_in words.now }
+    ensures limits { IfOk result MakesHeader }
 {
     let Some((name, rest)) = words.split_first() else {
         return Err(BadWords { place: 0 });
@@ -43,6 +64,10 @@ pub fn read_words(words: &[String]) -> Result<Command, BadWords>
         alone(Command::Version, rest)
     } else if name.eq_ignore_ascii_case("INTEG") {
         alone(Command::Integ, rest)
+    } else if name.eq_ignore_ascii_case("RUN") {
+        alone(Command::Run, rest)
+    } else if name.eq_ignore_ascii_case("CREATE") {
+        read_create(rest)
     } else if name.eq_ignore_ascii_case("EXTRACT") {
         read_extract(rest)
     } else {
@@ -63,7 +88,8 @@ fn alone(command: Command, rest: &[String]) -> Result<Command, BadWords>
 
 /// An extract, from the words behind its name.
 fn read_extract(words: &[String]) -> Result<Command, BadWords>
-    ensures { result ≡ extract_of (map string_bytes words.now) }
+    ensures command { result ≡ extract_of (map string_bytes words.now) }
+    ensures limits { IfOk result MakesHeader }
 {
     let Some((word, rest)) = words.split_first() else {
         return Ok(Command::Extract {

@@ -1,0 +1,3 @@
+mod SettingLemmas
+mod ScriptLemmas
+mod CreateLemmas

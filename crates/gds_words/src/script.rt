@@ -1,0 +1,86 @@
+ghost use Rattle.std.specs.Prelude.{◌≡◌, ℕ, List, IfNone, IfOk, IfSome};
+ghost use Rattle.m_key.specs.Node.{Node};
+ghost use Rattle.m_key.specs.Reference.{node_of};
+ghost use Rattle.m_text.specs.Grammar.{IsReferenceText};
+ghost use Rattle.gds_words.specs.Script.{Asks, IsSetting, Request, request_of};
+
+use m_key::Reference;
+use m_text::{read_reference, read_value};
+use std::alloc::{AllocError, Global};
+
+/// The most bytes that a line may have.
+pub(crate) const LINE_MAX: usize = 1_048_576;
+
+/// What a line of a script asks for.
+#[derive(Debug, Drop)]
+pub enum ScriptLine {
+    /// The node gets this value.
+    Set {
+        reference: Reference,
+        value: Vec<u8>,
+    },
+    /// The value of the node is told.
+    Get {
+        reference: Reference,
+    },
+    /// What was changed so far becomes durable.
+    Epoch,
+}
+
+/// What the line asks for. `None` says that it is outside the grammar.
+pub fn read_script(alloc: Global, line: &[u8]) -> Result<Option<ScriptLine>, AllocError>
+    ensures some { IfOk result (λ o. IfSome o (λ read. Asks line.now (request_of read))) }
+    ensures none { IfOk result (λ o. IfNone o ((request : Request) → Asks line.now request → ⊥)) }
+{
+    if line.len() > LINE_MAX {
+        return Ok(None);
+    }
+    if let Some(setting) = line.strip_prefix(b"SET ") {
+        let Some((reference, value)) = read_setting(alloc, setting)? else {
+            return Ok(None);
+        };
+        return Ok(Some(ScriptLine::Set { reference, value }));
+    }
+    if let Some(text) = line.strip_prefix(b"GET ") {
+        let Some(reference) = read_whole_reference(alloc, text)? else {
+            return Ok(None);
+        };
+        return Ok(Some(ScriptLine::Get { reference }));
+    }
+    if line == b"EPOCH".as_slice() {
+        return Ok(Some(ScriptLine::Epoch));
+    }
+    Ok(None)
+}
+
+/// The reference and the value of a setting, which the whole text is.
+fn read_setting(alloc: Global, text: &[u8]) -> Result<Option<(Reference, Vec<u8>)>, AllocError>
+    ensures some { IfOk result (λ o. IfSome o (λ read. IsSetting text.now (node_of read.0) read.1.items)) }
+    ensures none { IfOk result (λ o. IfNone o
+        ((node : Node) (value : List ℕ) → IsSetting text.now node value → ⊥)) }
+{
+    let Some((reference, len)) = read_reference(alloc, text)? else {
+        return Ok(None);
+    };
+    let Some(behind) = text[len..].strip_prefix(b"=") else {
+        return Ok(None);
+    };
+    let Some(value) = read_value(alloc, behind)? else {
+        return Ok(None);
+    };
+    Ok(Some((reference, value)))
+}
+
+/// The reference that the whole text is.
+fn read_whole_reference(alloc: Global, text: &[u8]) -> Result<Option<Reference>, AllocError>
+    ensures some { IfOk result (λ o. IfSome o (λ read. IsReferenceText text.now (node_of read))) }
+    ensures none { IfOk result (λ o. IfNone o ((node : Node) → IsReferenceText text.now node → ⊥)) }
+{
+    let Some((reference, len)) = read_reference(alloc, text)? else {
+        return Ok(None);
+    };
+    if len < text.len() {
+        return Ok(None);
+    }
+    Ok(Some(reference))
+}
