@@ -2,7 +2,7 @@
 use Rattle.std.proofs.Common.{◌≡◌, ◌⊎◌, ℕ, ◌+◌, ◌*◌, ◌<◌, ◌≤◌, Bool, true, false, List, [], ◌∷◌, ◌++◌, length}
 use Rattle.std.proofs.Common.{inl, inr, refl, sym, ap, subst, ◌∙◌, append_assoc, arith}
 use Rattle.std.specs.Prelude.{All}
-use Rattle.std.proofs.lemmas.List.{length-append, length-map, map-append}
+use Rattle.std.proofs.lemmas.List.{length-append, map-append}
 use Rattle.gds_block.specs.Item.{Item}
 use Rattle.gds_header.specs.declared.header.Header.{Header}
 use Rattle.gds_header.specs.Fields.{fields_of}
@@ -21,7 +21,7 @@ use Rattle.gds_find.specs.Trail.{steps_of}
 use Rattle.gds_find.specs.declared.trail.Step.{Step}
 use Rattle.gds_splice.specs.Divided.{Divides}
 use Rattle.gds_splice.specs.Parted.{GoesOn, MayPart, items_around}
-use Rattle.gds_splice.specs.Parting.{CannotGrow, CannotPart, IsToPart, IsTooDeep, PartsUpwards}
+use Rattle.gds_splice.specs.Parting.{CannotGrow, CannotPart, IsToPart, IsTooDeep, PartsUpwards, blocks_needed}
 use Rattle.gds_splice.specs.Parts.{FitInThree, pieces_of}
 use Rattle.gds_splice.specs.declared.node.Node.{Node}
 use Rattle.gds_splice.specs.declared.parts.Parts.{Parts}
@@ -182,18 +182,10 @@ module _ (before : List ℕ) (v : Visit) (t : Tree) (key rest : List ℕ) (place
           goes.reshapes (up v a above leaf 0 pieces (items_alone es) to_part))
 
       pub can_part : CannotPart path parts mid
-          → 2 * length (steps_of (path ++ last ∷ [])) + 1 ≤ (fields_of before).free → ⊥
+          → 2 + blocks_needed 1 (a ∷ above) ≤ (fields_of before).free → ⊥
       can_part cannot enough =
-          let step : Step → ℕ × ℕ = λ s. (s.block, s.offset) in
-          let count = length-map (path ++ last ∷ []) step in
           cannot v a above leaf 0 pieces (items_alone es) to_part
-          (omega (
-            arith,
-            divided_free before mid (leaf.block ∷ []) 0 es parts m.maps here,
-            enough,
-            count,
-            length-append path (last ∷ []),
-          ))
+          (omega (arith, divided_free before mid (leaf.block ∷ []) 0 es parts m.maps here, enough))
 
       pub too_deep : CannotGrow path parts mid → IsTooDeep (fields_of before) (a ∷ above) 0
       too_deep deep =

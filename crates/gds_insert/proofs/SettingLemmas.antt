@@ -1,7 +1,9 @@
 -- What is told of an item that is set, from the leaf up to the root.
-use Rattle.std.proofs.Common.{◌≡◌, ℕ, ◌+◌, ◌*◌, ◌≤◌, Bool, List, [], ◌∷◌, ◌++◌, length, Option, None}
+use Rattle.std.proofs.Common.{◌≡◌, ℕ, suc, ◌+◌, ◌*◌, ◌≤◌, Bool, List, [], ◌∷◌, ◌++◌, length, Option, None}
 use Rattle.std.proofs.Common.{sym, ap, subst, ◌∙◌, arith}
+use Rattle.std.proofs.Common.{◌==◌, inl, inr}
 use Rattle.std.specs.Option.{ForSome}
+use Rattle.std.proofs.lemmas.Bool.{cases_eq, cond-false, cond-true, eq-eqb, ne_eqb}
 use Rattle.std.proofs.lemmas.List.{length-append, length-map}
 use Rattle.gds_block.specs.Block.{level_of}
 use Rattle.gds_draft.specs.Draft.{DraftState}
@@ -13,6 +15,9 @@ use Rattle.gds_law.specs.Path.{Steps}
 use Rattle.gds_law.specs.Visit.{Visit}
 use Rattle.gds_search.specs.declared.place.Place.{Place}
 use Rattle.gds_sound.specs.Sound.{Tree}
+use Rattle.gds_tree.specs.RightBlock.{IsDueLevel}
+use Rattle.gds_ancestors.specs.Ancestors.{Ancestor, AreAncestors}
+use Rattle.gds_splice.specs.Parting.{blocks_needed, blocks_taken}
 use Rattle.gds_insert.specs.LeafLaws.{HasLeaf}
 use Rattle.gds_insert.specs.SetIn.{AddsFew, CannotSet, HasSet, IsDeep, IsDeepFor, MaySet, SetsIn}
 use Rattle.gds_insert.specs.Setting.{CannotSetAt, IsDeepAt, IsNoLeaf, SetsAt, SetsLeaf}
@@ -44,6 +49,34 @@ pub moved : (P : Steps → DraftState → List ℕ → Type 0) (told now : Optio
 moved P told now old new steps way same kept are h image is =
     subst (λ d. P (steps_of steps) d image) kept
     (subst (λ xs. P (steps_of xs) new image) (sym are) (h image (same ∙ is)))
+
+-- ---- how many blocks are needed
+
+-- A root has level 7 at most.
+levels_within : (file : List ℕ) (root w : Visit) (a : Ancestor) (above : List Ancestor) (level : ℕ) → root.level ≡ None
+    → AreAncestors file root (a ∷ above) w level → suc level + length above ≤ 7
+levels_within file root w a [] level none lead =
+    let own : a.visit.level ≡ None = ap (λ (v : Visit). v.level) lead.1 ∙ none in
+    let due = subst (λ o. IsDueLevel o (level_of (block_of file a.visit.block))) own lead.0.has.right.head.level in
+    omega (arith, due.1, lead.0.has.level)
+levels_within file root w a (b ∷ above) level none lead =
+    omega (arith, levels_within file root a.visit b above (suc level) none lead.1)
+
+needed_at_root : (level : ℕ) → level ≤ 7 → blocks_taken level [] + 2 * level ≤ 15
+needed_at_root level most =
+    elim (cases_eq level 7) [
+      | inl is ↦
+          let none : blocks_taken level [] ≡ 0 = cond-true (level == 7) _ _ (eq-eqb level 7 is) in
+          omega (arith, none, is)
+      | inr other ↦
+          let three : blocks_taken level [] ≡ 3 = cond-false (level == 7) _ _ (ne_eqb level 7 other) in
+          omega (arith, three, other, most)
+    ]
+
+needed_within : (level : ℕ) (a : Ancestor) (above : List Ancestor) → level + length above ≤ 7
+    → blocks_needed level (a ∷ above) + 2 * level ≤ 15
+needed_within level a [] most = omega (arith, needed_at_root level (omega (arith, most)))
+needed_within level a (b ∷ above) most = omega (arith, needed_within (suc level) b above (omega (arith, most)))
 
 -- ---- the trail from a root
 
@@ -85,11 +118,11 @@ module _ (file : List ℕ) (root : ℕ) (key rest : List ℕ) (v : Visit) (t : T
     set_from after sets = sets v t leaf.above leaf.further leaf.leaf leaf.before leaf.behind m leaf.is_leaf
 
     cannot_from : CannotSetAt (steps_of steps) place key rest file
-        → 2 * level_of (block_of file root) + 3 ≤ (fields_of file).free → ⊥
+        → 15 ≤ (fields_of file).free → ⊥
     cannot_from none enough =
-        let step : Step → ℕ × ℕ = λ s. (s.block, s.offset) in
+        let levels = levels_within file v leaf.leaf leaf.above leaf.further 0 m.is_root.level leaf.is_leaf.leads in
         none v t leaf.above leaf.further leaf.leaf leaf.before leaf.behind m leaf.is_leaf
-        (omega (arith, enough, count, length-map steps step))
+        (omega (arith, enough, needed_within 1 leaf.above leaf.further levels))
 
     deep_from : IsDeepAt (steps_of steps) place key rest file → IsDeepFor file v key
     deep_from deep = record {

@@ -2,7 +2,6 @@
 use Rattle.std.proofs.Common.{◌≡◌, ℕ, ◌+◌, ◌≤◌, List, [], ◌∷◌, ◌++◌}
 use Rattle.std.proofs.Common.{Option, ap, ◌∙◌, arith}
 use Rattle.std.specs.Option.{ForSome}
-use Rattle.std.proofs.lemmas.List.{length-append, length-map}
 use Rattle.gds_block.specs.Item.{Item}
 use Rattle.gds_draft.specs.Draft.{DraftState}
 use Rattle.gds_draft.specs.Drafted.{drafted}
@@ -45,11 +44,9 @@ module _ (told : Option (List ℕ)) (old : DraftState) (key rest : List ℕ) (pl
     cannot_divide h is_draft size none image is v t a above leaf front back m l enough =
         let before : List ℕ = drafted old image in
         let fields = drafted_fields image old (is_draft image is) in
-        let step : Step → ℕ × ℕ = λ s. (s.block, s.offset) in
-        let count = length-map (path ++ last ∷ []) step in
         can_divide before v t key rest place path last a above leaf front back m l node (has image is) h
         old.header.free (ap (λ (x : Header). x.block_size) fields ∙ size) (ap (λ (x : Header). x.free) fields)
-        (none image (mid_same ∙ is)) (omega (arith, enough, count, length-append path (last ∷ [])))
+        (none image (mid_same ∙ is)) (omega (arith, enough))
 
     module _ (now_told : Option (List ℕ)) (now_same : now_told ≡ mid_told) (mid new : DraftState) (parts : Parts)
         (divides : ForSome mid_told (λ image. IsLawful (drafted old image)

@@ -38,11 +38,11 @@ abbrev pub SetsIn : ℕ → List ℕ → List ℕ → List ℕ → List ℕ → 
 SetsIn root key rest before after =
     (v : Visit) (t : Tree) → v.block ≡ root → MaySet before v t key rest → HasSet before after v t key rest
 
--- None stands there that may have the item, or too few blocks are free: two for each level and three more.
+-- None stands there that may have the item, or fewer than 15 blocks are free.
 abbrev pub CannotSet : ℕ → List ℕ → List ℕ → List ℕ → Type 0
 CannotSet root key rest file =
     (v : Visit) (t : Tree) → v.block ≡ root → MaySet file v t key rest
-    → 2 * level_of (block_of file root) + 3 ≤ (fields_of file).free → ⊥
+    → 15 ≤ (fields_of file).free → ⊥
 
 -- The level-0 block to which a key belongs is as deep as it may be, and the index blocks above it are full.
 pub record IsDeepFor (file : List ℕ) (v : Visit) (key : List ℕ) : Type 0 where

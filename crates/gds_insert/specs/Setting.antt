@@ -1,5 +1,5 @@
 -- What a call makes of a tree in which it sets an item, whichever tree that is.
-use Rattle.std.specs.Prelude.{◌≡◌, ◌+◌, ◌*◌, ◌≤◌, ℕ, List, ◌∷◌, length}
+use Rattle.std.specs.Prelude.{◌≡◌, ◌+◌, ◌≤◌, ℕ, List, ◌∷◌}
 use Rattle.gds_block.specs.Item.{Item}
 use Rattle.gds_header.specs.Fields.{fields_of}
 use Rattle.gds_law.specs.Path.{Steps}
@@ -7,7 +7,7 @@ use Rattle.gds_law.specs.Visit.{Visit}
 use Rattle.gds_search.specs.declared.place.Place.{Place}
 use Rattle.gds_sound.specs.Sound.{Tree}
 use Rattle.gds_ancestors.specs.Ancestors.{Ancestor}
-use Rattle.gds_splice.specs.Parting.{IsTooDeep}
+use Rattle.gds_splice.specs.Parting.{IsTooDeep, blocks_needed}
 use Rattle.gds_insert.specs.Leaf.{IsLeafFor}
 use Rattle.gds_insert.specs.SetIn.{HasSet, MaySet}
 
@@ -31,12 +31,12 @@ SetsAt steps place key rest before after =
     → MaySet before v t key rest → IsLeafFor before v t key place steps (a ∷ above) leaf front back
     → HasSet before after v t key rest
 
--- They lead to none, or too few blocks are free: two for each step and one more.
+-- They lead to none, or too few blocks are free: two for the leaf, and those for the index blocks above.
 abbrev pub CannotSetAt : Steps → Place → List ℕ → List ℕ → List ℕ → Type 0
 CannotSetAt steps place key rest file =
     (v : Visit) (t : Tree) (a : Ancestor) (above : List Ancestor) (leaf : Visit) (front back : List Item)
     → MaySet file v t key rest → IsLeafFor file v t key place steps (a ∷ above) leaf front back
-    → 2 * length steps + 1 ≤ (fields_of file).free → ⊥
+    → 2 + blocks_needed 1 (a ∷ above) ≤ (fields_of file).free → ⊥
 
 -- The index blocks above that leaf are full, and the root is of level 7.
 abbrev pub IsDeepAt : Steps → Place → List ℕ → List ℕ → List ℕ → Type 0

@@ -9,7 +9,7 @@ use gds_base::{Base, BaseError};
 use gds_draft::Draft;
 use gds_edit::Place;
 use gds_find::Step;
-use gds_splice::{divide, part};
+use gds_splice::{Growth, divide, part};
 use host_model::Host;
 use std::alloc::Global;
 
@@ -38,6 +38,7 @@ pub(crate) fn set_in_pieces<H: Host>(
 {
     base.hold_draft(draft);
     let node = read_with_item(alloc, base, draft, leaf, place.is_equal, key, rest)?;
-    let parts = divide(alloc, base, draft, &[leaf.block], node)?;
+    let growth = Growth::at(&node.entries, leaf.offset, 1);
+    let parts = divide(alloc, base, draft, &[leaf.block], node, growth)?;
     part(alloc, base, draft, above, &parts)
 }

@@ -1,5 +1,5 @@
 -- Entries that are cut in two.
-use Rattle.std.proofs.Common.{◌≡◌, ◌≤◌, ◌<◌, ◌-◌, ℕ, List, [], ◌∷◌, length, take, drop, arith, sym, subst, length-drop}
+use Rattle.std.proofs.Common.{◌≡◌, ◌≤◌, ◌<◌, ℕ, List, [], ◌∷◌, length, take, drop, arith, sym, subst, length-drop}
 use Rattle.std.proofs.lemmas.List.{take-map, drop-map, length-map, length-take-le}
 use Rattle.gds_block.specs.Item.{Item}
 use Rattle.gds_pack.specs.Entry.{item, items}

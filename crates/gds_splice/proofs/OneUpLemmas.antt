@@ -1,6 +1,6 @@
 -- One index block is told of the parts of its child.
-use Rattle.std.proofs.Common.{◌≡◌, ◌≢◌, ◌+◌, ◌<◌, ◌≤◌, ℕ, suc, List, [], ◌∷◌, ◌++◌, length, drop, Bool, None, true}
-use Rattle.std.proofs.Common.{refl, sym, ap, ◌∙◌, subst, arith}
+use Rattle.std.proofs.Common.{◌≡◌, ◌≢◌, ◌+◌, ◌<◌, ◌≤◌, ℕ, suc, List, [], ◌∷◌, ◌++◌, length, drop, Bool, None}
+use Rattle.std.proofs.Common.{◌==◌, false, true, refl, sym, ap, ◌∙◌, subst, arith}
 use Rattle.std.proofs.Common.{rules, tests}
 use Rattle.std.specs.Prelude.{All, IsTrue, nat_eq, ◌||◌}
 use Rattle.std.proofs.Math.Bool.{or-true}
@@ -8,7 +8,7 @@ use Rattle.gds_file.specs.Maps.{has_block}
 use Rattle.gds_split.proofs.AboveLemmas.{above_count}
 use Rattle.gds_splice.proofs.CountedLemmas.{same_one}
 use Rattle.std.specs.List.{AllByRecursion}
-use Rattle.std.proofs.lemmas.Bool.{false≢true}
+use Rattle.std.proofs.lemmas.Bool.{cond-false, false≢true, ne_eqb}
 use Rattle.std.proofs.lemmas.List.Elements.{All-append, All-cons, All-from_recursion, All-nil, recursion_from_All}
 use Rattle.gds_block.specs.Item.{Item}
 use Rattle.gds_file.specs.FileLaws.{IsLawful}
@@ -30,8 +30,8 @@ use Rattle.gds_split.proofs.RootLemmas.{raised_lawful}
 use Rattle.gds_split.proofs.SizeLemmas.{few_entries}
 use Rattle.gds_tree.specs.RightBlock.{IsDueLevel}
 use Rattle.gds_splice.specs.Divided.{CannotRaise, Divides, MayPut, Raises}
-use Rattle.gds_splice.specs.Parting.{IsFull, IsTooDeep}
-use Rattle.gds_splice.specs.OneUp.{GoesUp, IsToTell}
+use Rattle.gds_splice.specs.Parting.{IsFull, IsTooDeep, blocks_taken}
+use Rattle.gds_splice.specs.OneUp.{AreNone, GoesUp, IsToTell}
 use Rattle.gds_splice.specs.Parted.{HasRoom, IsPackedAt, MayPart, TreeBecomes, WritesPieces, items_around}
 use Rattle.gds_splice.specs.Parts.{FitInRuns, FitInThree, above_parts, pieces_of, told_entries}
 use Rattle.gds_splice.specs.Told.{IsStepTo, IsTold}
@@ -327,17 +327,30 @@ at_root file root a [] child level pieces below step top parts p node is_top tol
 at_root file root a (b ∷ above) child level pieces below step top parts p node is_top told after r low =
     absurd (false≢true (sym p.at_top ∙ is_top))
 
+-- a root below level 7 takes three, and an index block below others two
+three_for_root : (level free : ℕ) → blocks_taken level [] ≤ free → level < 7 → 3 ≤ free
+three_for_root level free enough low =
+    let other : (level == 7) ≡ false = ne_eqb level 7 (omega arith) in
+    let three : blocks_taken level [] ≡ 3 = cond-false (level == 7) _ _ other in
+    omega (arith, enough, three)
+
+pub two_below : (above : List Ancestor) (top : Bool) (level free : ℕ) → AreNone above top → top ≡ false
+    → blocks_taken level above ≤ free → 2 ≤ free
+two_below [] top level free at_top below enough = absurd (false≢true (sym below ∙ at_top))
+two_below (b ∷ above) top level free at_top below enough = enough
+
 pub cannot_raise : (file : List ℕ) (root : Visit) (a : Ancestor) (above : List Ancestor) (child : Visit) (level : ℕ)
     (pieces : List Piece) (below : Tree) (step : Step) (top : Bool) (parts : Parts)
     (p : IsToTell file root a above child level pieces below step top parts) (node : Node) → top ≡ true
     → IsTold parts level a.front a.entry a.back node → CannotRaise node.level (items node.entries.items) file
-    → 3 ≤ (fields_of file).free → ⊥
+    → blocks_taken (suc level) above ≤ (fields_of file).free → ⊥
 cannot_raise file root a [] child level pieces below step top parts p node is_top told cannot free =
     let es : List Item = a.front ++ pieces_above level pieces a.entry.key ++ a.back in
     let entries = entries_told file root a [] child level pieces below step top parts p node told in
     subst (λ xs. CannotRaise (suc level) xs file) entries
     (subst (λ n. CannotRaise n (items node.entries.items) file) told.level_is cannot)
-    p.parted.maps (three file root a [] child level pieces below step top parts p) free
+    p.parted.maps (three file root a [] child level pieces below step top parts p)
+    (three_for_root (suc level) (fields_of file).free free)
     (leads_to_own file root a child level pieces below step top parts p)
 cannot_raise file root a (b ∷ above) child level pieces below step top parts p node is_top told cannot free =
     absurd (false≢true (sym p.at_top ∙ is_top))

@@ -107,7 +107,7 @@ module _ (file : List ℕ) (steps outer : List Step) (step : Step) (top : Bool) 
   cannot_one cannot root a above child level pieces below p free =
       cannot root a above child level pieces below
       (is_to_tell file root a above child level pieces below steps outer step top parts p is empty)
-      (omega (arith, free, long))
+      (omega (arith, free))
 
   pub ends_one : IsAtEnd step top parts file → CannotGrow steps parts file
   ends_one ends root a above child level pieces below p =
@@ -159,7 +159,7 @@ module _ (file : List ℕ) (steps outer : List Step) (step : Step) (top : Bool) 
     cannot_on kept rest root a (b ∷ above) child level pieces below p free =
         let u = up root a b above child level pieces below p in
         rest root b above a.visit (suc level) u.own (around a.left p.parted.over.tree a.right)
-        (next root a b above child level pieces below p) (omega (arith, free, kept, long))
+        (next root a b above child level pieces below p) (omega (arith, free, kept))
 
     still_full : KeepsLimits (fields_of file) (fields_of mid) → (above : List Ancestor)
         → AllByRecursion (IsFull (fields_of mid)) above → AllByRecursion (IsFull (fields_of file)) above

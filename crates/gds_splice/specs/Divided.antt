@@ -1,5 +1,5 @@
 -- A block whose entries are put into several.
-use Rattle.std.specs.Prelude.{◌≡◌, ◌+◌, ◌≤◌, ℕ, List, [], ◌++◌, length}
+use Rattle.std.specs.Prelude.{◌≡◌, ◌+◌, ◌<◌, ◌≤◌, ℕ, List, [], ◌++◌, length}
 use Rattle.gds_block.specs.Item.{Item}
 use Rattle.gds_file.specs.FileLaws.{IsLawful}
 use Rattle.gds_header.specs.Fields.{fields_of}
@@ -35,10 +35,10 @@ pub record MayPut (h : Header) (level : ℕ) (es : List Item) : Type 0 where
   pub packable : ArePackable level es
   pub fits : packed_size es ≤ h.block_size
 
--- A root with these entries can't go into pieces in free blocks: the maps aren't lawful, three pieces don't suffice,
--- fewer than three blocks are free, or the root can't lead to the pieces.
+-- A root below level 7 with these entries can't go into pieces in free blocks: the maps aren't lawful, three pieces
+-- don't suffice, fewer than three blocks are free, or the root can't lead to the pieces. At level 7 that is never said.
 abbrev pub CannotRaise : ℕ → List Item → List ℕ → Type 0
 CannotRaise level es file =
-    IsLawful file → FitInThree (fields_of file).block_size es → 3 ≤ (fields_of file).free
+    IsLawful file → FitInThree (fields_of file).block_size es → (level < 7 → 3 ≤ (fields_of file).free)
     → ((mid : List ℕ) (parts : Parts) → Divides file mid [] level es parts
     → MayPut (fields_of file) (level + 1) (above_parts parts [])) → ⊥

@@ -8,7 +8,7 @@ use Rattle.gds_split.specs.Pieces.{Piece, pieces_above}
 use Rattle.gds_tree.specs.Around.{around}
 use Rattle.gds_ancestors.specs.Ancestors.{Ancestor, outer_blocks}
 use Rattle.gds_splice.specs.Parted.{GoesOn, IsParted, TreeBecomes, items_around}
-use Rattle.gds_splice.specs.Parting.{IsFull, IsTooDeep}
+use Rattle.gds_splice.specs.Parting.{IsFull, IsTooDeep, blocks_taken}
 use Rattle.gds_splice.specs.Parts.{above_parts}
 use Rattle.gds_splice.specs.declared.parts.Parts.{Parts}
 use Rattle.gds_find.specs.declared.trail.Step.{Step}
@@ -59,12 +59,12 @@ abbrev pub TellsOne : Step → Bool → Parts → Option Parts → List ℕ → 
 TellsOne step top parts None before after = EndsHere step top parts before after
 TellsOne step top parts (Some own) before after = GoesOnUp step top parts own before after
 
--- There is no such child, or fewer than three blocks are free.
+-- There is no such child, or too few blocks are free.
 abbrev pub CannotTellOne : Step → Bool → Parts → List ℕ → Type 0
 CannotTellOne step top parts file =
     (root : Visit) (a : Ancestor) (above : List Ancestor) (child : Visit) (level : ℕ) (pieces : List Piece)
     (below : Tree) → IsToTell file root a above child level pieces below step top parts
-    → 3 ≤ (fields_of file).free → ⊥
+    → blocks_taken (suc level) above ≤ (fields_of file).free → ⊥
 
 -- Whichever child that is, the block is a root that can't be raised.
 abbrev pub IsAtEnd : Step → Bool → Parts → List ℕ → Type 0

@@ -1,5 +1,6 @@
 -- A child of an index block that is in pieces, whose ancestors are told of them.
-use Rattle.std.specs.Prelude.{◌≡◌, ◌+◌, ◌*◌, ◌<◌, ◌≤◌, ℕ, All, List, ◌∷◌, ◌++◌, length}
+use Rattle.std.specs.Prelude.{◌≡◌, ◌+◌, ◌*◌, ◌<◌, ◌≤◌, ◌==◌, ℕ, suc, All, List, [], ◌∷◌, ◌++◌, length}
+use Rattle.std.specs.Prelude.{if◌then◌else◌}
 use Rattle.gds_header.specs.Fields.{fields_of}
 use Rattle.gds_header.specs.declared.header.Header.{Header}
 use Rattle.gds_law.specs.Visit.{Visit}
@@ -31,12 +32,23 @@ PartsUpwards steps parts before after =
     → TreeBecomes before after root (p.parted.over.tree.blocks ++ outer_blocks (a ∷ above))
     (items_around (a ∷ above) below.items)
 
--- There is no such child, or too few blocks are free: two for each step and one more.
+-- How many free blocks an index block of a level, below these others, takes at most where it goes into pieces: all but
+-- the first of three, or all of a root's. A root of level 7 goes into none.
+abbrev pub blocks_taken : ℕ → List Ancestor → ℕ
+blocks_taken level [] = if level == 7 then 0 else 3
+blocks_taken level (b ∷ above) = 2
+
+-- how many these take together, of which the first has this level: 13 at most
+abbrev pub blocks_needed : ℕ → List Ancestor → ℕ
+blocks_needed level [] = 0
+blocks_needed level (a ∷ above) = blocks_taken level above + blocks_needed (suc level) above
+
+-- There is no such child, or too few blocks are free.
 abbrev pub CannotPart : List Step → Parts → List ℕ → Type 0
 CannotPart steps parts file =
     (root : Visit) (a : Ancestor) (above : List Ancestor) (child : Visit) (level : ℕ) (pieces : List Piece)
     (below : Tree) → IsToPart file root a above child level pieces below steps parts
-    → 2 * length steps + 1 ≤ (fields_of file).free → ⊥
+    → blocks_needed (suc level) (a ∷ above) ≤ (fields_of file).free → ⊥
 
 -- The block of an ancestor has no room for two entries more that have keys of the greatest length.
 abbrev pub IsFull : Header → Ancestor → Type 0

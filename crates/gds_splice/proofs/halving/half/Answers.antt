@@ -1,4 +1,4 @@
-use Rattle.std.proofs.Common.{◌≡◌, arith, ap, length, take, drop, ◌-◌}
+use Rattle.std.proofs.Common.{arith, ap}
 use Rattle.gds_pack.specs.Entry.{items}
 use Rattle.gds_pack.specs.Packed.{packed_size}
 use Rattle.gds_splice.proofs.HalfLemmas.{in_two}

@@ -1,4 +1,4 @@
-use Rattle.std.proofs.Common.{◌≡◌, ◌∷◌, ◌<◌, List, ℕ, Option, ap, sym, ◌∙◌, subst, arith}
+use Rattle.std.proofs.Common.{◌≡◌, ◌∷◌, ◌<◌, List, ℕ, suc, Option, ap, sym, ◌∙◌, subst, arith}
 use Rattle.host_model.proofs.FailureLemmas.{NeverFell-refl}
 use Rattle.gds_draft.specs.Drafted.{drafted}
 use Rattle.gds_header.specs.Fields.{fields_of}
@@ -13,7 +13,8 @@ use Rattle.gds_splice.specs.declared.parts.Parts.{Parts}
 use Rattle.gds_splice.proofs.DraftingLemmas.{same_header, same_image}
 use Rattle.gds_splice.proofs.EndingLemmas.{parting_exit, reading_exit}
 use Rattle.gds_splice.proofs.EntriesPutLemmas.{drafted_fields}
-use Rattle.gds_splice.proofs.OneUpLemmas.{at_end, at_root, cannot_raise, here, packable_now, step_to, three_told, up}
+use Rattle.gds_splice.proofs.OneUpLemmas.{at_end, at_root, cannot_raise, here, packable_now, step_to, three_told}
+use Rattle.gds_splice.proofs.OneUpLemmas.{two_below, up}
 use Rattle.gds_splice.proofs.one_up.tell_one.Goals as goal
 
 pub returns-in_err-node-clause-ends : goal.returns-in_err-node-clause-ends
@@ -114,7 +115,11 @@ returns-in_err-divide-clause-ends g c =
     (three_told file root a above child level pieces below c.args.step c.args.is_root c.args.parts.now p node
     (c.in_ok-node.ensures.told image is a.visit level a.front a.entry a.back
     (step_to file root a above child level pieces below c.args.step c.args.is_root c.args.parts.now p))))
-    (omega (arith, free, ap (λ (x : Header). x.free) fields)))
+    (omega (
+      arith,
+      two_below above c.args.is_root (suc level) (fields_of file).free p.at_top c.if-is_root.false free,
+      ap (λ (x : Header). x.free) fields,
+    )))
     c.from_residual-in_err-divide.ensures.1 c.in_err-divide.ensures.ends
 
 pub returns-clause-told : goal.returns-clause-told

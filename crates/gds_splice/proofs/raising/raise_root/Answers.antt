@@ -25,7 +25,7 @@ returns-in_err-parts-clause-ends g c =
     let fields = drafted_fields image c.args.draft.now (c.hold_draft.ensures image is) in
     cannot image is lawful
     (subst (λ n. FitInThree n es) (ap (λ (h : Header). h.block_size) fields ∙ c.requires.draft.block_size) three)
-    (omega (arith, free, ap (λ (h : Header). h.free) fields)))
+    (omega (arith, free c.if-node-ge7.false, ap (λ (h : Header). h.free) fields)))
     c.from_residual.ensures.1 c.in_err-parts.ensures.ends
 
 pub returns-clause-raised : goal.returns-clause-raised
