@@ -1,4 +1,4 @@
-ghost use Rattle.std.specs.Prelude.{◌≡◌, [], IfErr, IfOk};
+ghost use Rattle.std.specs.Prelude.{◌≡◌, [], IfErr, IfOk, None};
 ghost use Rattle.std.specs.Option.{ForSome};
 ghost use Rattle.gds_header.specs.Fields.{fields_of};
 ghost use Rattle.gds_header.specs.Kinds.{IsWithinLimits};
@@ -84,5 +84,13 @@ impl<H: Host> Base<H> {
     {
         let _header = self.units.header();
         let _drafted = draft.header();
+    }
+
+    /// Does nothing: the image is told exactly where the host tells.
+    pub fn hold_told(&self)
+        ensures untold { H.told self.now.host ≡ None → image_of self.now ≡ None }
+        ensures tells { image_of self.now ≡ None → H.told self.now.host ≡ None }
+    {
+        self.units.hold_told();
     }
 }
