@@ -1,0 +1,6 @@
+mod TurningLemmas
+mod WayLemmas
+mod FindLemmas
+mod TrailLemmas
+mod SideLemmas
+mod FoundLemmas

@@ -1,0 +1,11 @@
+//! The way from a root of a tree down to the level-0 block in whose bounds a key lies.
+#![tactic(auto)]
+
+mod finding;
+mod laws;
+mod trail;
+mod turning;
+
+pub use finding::find;
+pub use laws::{items_at_trail, items_beside};
+pub use trail::{Step, Trail};
