@@ -1,0 +1,10 @@
+pub mod CountedLemmas
+pub mod TakenLemmas
+pub mod ImageLemmas
+pub mod MayLemmas
+pub mod StaysLemmas
+pub mod WritingLemmas
+pub mod PieceLemmas
+pub mod AncestorLemmas
+pub mod RaisedLemmas
+pub mod LeafLemmas
