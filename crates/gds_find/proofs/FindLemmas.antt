@@ -49,6 +49,12 @@ drafted_exact image draft is =
       long = long;
     }
 
+-- A block of it is one of the draft.
+pub within_draft : (image : List ℕ) (draft : DraftState) → IsDraftOf image draft → (n : ℕ)
+    → n < (fields_of (drafted draft image)).total → n < draft.header.total
+within_draft image draft is n low =
+    omega (arith, low, ap (λ (h : Header). h.total) (drafted_read image draft is).fields)
+
 -- what is said of bytes where a level may be due
 abbrev pub SaysTurn : List ℕ → Option ℕ → List ℕ → Option Turn → Type 0
 SaysTurn bytes due key o =

@@ -4,7 +4,7 @@ use Rattle.std.proofs.Common.{sym, ap, subst, ◌∙◌, arith, append_assoc}
 use Rattle.std.specs.Bool.{OnFalse, OnTrue}
 use Rattle.std.specs.List.{AllByRecursion}
 use Rattle.std.proofs.lemmas.List.Elements.{All-from_recursion, recursion_from_All}
-use Rattle.gds_ancestors.specs.Ancestors.{items_before, items_behind}
+use Rattle.gds_ancestors.specs.Ancestors.{Ancestor, items_before, items_behind, whole_with}
 use Rattle.gds_ancestors.proofs.AlongLemmas.{ancestors_of}
 use Rattle.gds_ancestors.proofs.ContentLemmas.{whole_items}
 use Rattle.gds_block.specs.Block.{level_of}
@@ -18,6 +18,7 @@ use Rattle.gds_pack.specs.Unpacked.{entries_of}
 use Rattle.gds_search.specs.Place.{BeginsAbove, BeginsAt, IsBelow}
 use Rattle.gds_search.specs.declared.place.Place.{Place}
 use Rattle.gds_sound.specs.Sound.{Tree, sound_tree, tree_at}
+use Rattle.gds_tree.specs.Below.{leaf_tree}
 use Rattle.gds_tree.specs.Keeps.{IsImage}
 use Rattle.gds_tree.proofs.BelowLemmas.{all_both, all_weaker}
 use Rattle.gds_tree.proofs.FineLemmas.{some_key}
@@ -67,37 +68,62 @@ begins key p behind right false false same leaves at above rest =
 begins key p behind right true false same leaves at above rest = absurd (cc)
 begins key p behind right false true same leaves at above rest = absurd (cc)
 
-four_parts : {A : Type 0} (x a b y : List A) → x ++ (a ++ b) ++ y ≡ (x ++ a) ++ (b ++ y)
-four_parts x a b y =
-    ap (λ l. l ++ y) (sym (append_assoc x a b)) ∙ append_assoc (x ++ a) b y
+four_parts : (items left inner right before behind : List Item) → items ≡ left ++ inner ++ right
+    → inner ≡ before ++ behind → items ≡ (left ++ before) ++ (behind ++ right)
+four_parts items left inner right before behind whole parts =
+    whole ∙ ap (λ xs. left ++ xs ++ right) parts
+    ∙ ap (λ xs. xs ++ right) (sym (append_assoc left before behind)) ∙ append_assoc (left ++ before) behind right
 
-pub items_at : (image : List ℕ) (root : Visit) (key : List ℕ) (steps : Steps) (found : Bool) (place : Place) (t : Tree)
-    → IsImage image → root.block < (fields_of image).total → tree_at image root ≡ Some t
-    → IsTrail image root key steps found place → PartsItems t.items key found
-items_at image root key steps found place t i there tree trail =
-    let height : length trail.path + 0 ≡ level_of (block_of image root.block) = omega (arith, trail.levels) in
-    let a = ancestors_of image i root trail.leaf trail.path 0 t there trail.leads
-    (ap (λ n. sound_tree image n root) height ∙ tree) in
-    let l = by_leaf image trail.leaf a.inner i trail.has.there a.sound in
-    let same = same_entries l.es trail.entries (entries_of (block_of image trail.leaf.block)) l.has.right.found
-    trail.has.right.found in
-    let items : a.inner.items ≡ trail.before ++ trail.behind =
-    ap (λ (w : Tree). w.items) l.is ∙ same ∙ trail.place_is.parts in
-    let left : List Item = items_before a.ancestors in
-    let right : List Item = items_behind a.ancestors in
-    let leaves : AreLeaves [] (trail.before ++ trail.behind) =
-    subst (AreLeaves []) trail.place_is.parts (packable image i trail.leaf 0 trail.entries trail.has) in
-    record {
-      before = left ++ trail.before;
-      behind = trail.behind ++ right;
-      parts = ap (λ (w : Tree). w.items) a.whole ∙ whole_items a.ancestors a.inner
-          ∙ ap (λ xs. left ++ xs ++ right) items ∙ four_parts left trail.before trail.behind right;
-      below = All-from_recursion (λ e. Below e.key key) (left ++ trail.before)
-          (all_both (λ (e : Item). Below e.key key) left trail.before
-          (before_below image i key root trail.leaf a.ancestors 0 a.lead trail.holds)
-          (all_weaker (IsBelow key) (λ (e : Item). Below e.key key) trail.before (λ e low. low.1)
-          (recursion_from_All (IsBelow key) trail.before trail.place_is.below)));
-      begins = begins key (key_behind [] trail.before) trail.behind right found place.is_equal trail.found_is
-          (leaves_right [] trail.before trail.behind leaves) trail.place_is.equal trail.place_is.above
-          (behind_above image i key root trail.leaf a.ancestors 0 a.lead trail.holds);
-    }
+whole_parts : (t : Tree) (above : List Ancestor) (inner : Tree) → t ≡ whole_with above inner
+    → t.items ≡ items_before above ++ inner.items ++ items_behind above
+whole_parts t above inner is = ap (λ (w : Tree). w.items) is ∙ whole_items above inner
+
+leaf_items : (t : Tree) (leaf : Visit) (es entries : List Item) → t ≡ leaf_tree leaf es → es ≡ entries
+    → t.items ≡ entries
+leaf_items t leaf es entries is same = ap (λ (w : Tree). w.items) is ∙ same
+
+-- The items of a tree around those of the block in which a trail ends, which stand before and behind a place.
+pub record AreAround (items before behind : List Item) (key : List ℕ) : Type 0 where
+  pub left : List Item
+  pub right : List Item
+  pub parts : items ≡ (left ++ before) ++ (behind ++ right)
+  pub below : AllByRecursion (λ (e : Item). Below e.key key) left
+  pub above : AllAbove key right
+
+module _ (image : List ℕ) (root : Visit) (key : List ℕ) (steps : Steps) (found : Bool) (place : Place) (t : Tree)
+    (i : IsImage image) (there : root.block < (fields_of image).total) (tree : tree_at image root ≡ Some t)
+    (trail : IsTrail image root key steps found place) where
+  pub items_around : AreAround t.items trail.before trail.behind key
+  items_around =
+      let height : length trail.path + 0 ≡ level_of (block_of image root.block) = omega (arith, trail.levels) in
+      let a = ancestors_of image i root trail.leaf trail.path 0 t there trail.leads
+      (ap (λ n. sound_tree image n root) height ∙ tree) in
+      let l = by_leaf image trail.leaf a.inner i trail.has.there a.sound in
+      let same = same_entries l.es trail.entries (entries_of (block_of image trail.leaf.block)) l.has.right.found
+      trail.has.right.found in
+      record {
+        left = items_before a.ancestors;
+        right = items_behind a.ancestors;
+        parts = four_parts t.items (items_before a.ancestors) a.inner.items (items_behind a.ancestors) trail.before
+            trail.behind (whole_parts t a.ancestors a.inner a.whole)
+            (leaf_items a.inner trail.leaf l.es trail.entries l.is same ∙ trail.place_is.parts);
+        below = before_below image i key root trail.leaf a.ancestors 0 a.lead trail.holds;
+        above = behind_above image i key root trail.leaf a.ancestors 0 a.lead trail.holds;
+      }
+
+  pub items_at : PartsItems t.items key found
+  items_at =
+      let a = items_around in
+      let leaves : AreLeaves [] (trail.before ++ trail.behind) =
+      subst (AreLeaves []) trail.place_is.parts (packable image i trail.leaf 0 trail.entries trail.has) in
+      record {
+        before = a.left ++ trail.before;
+        behind = trail.behind ++ a.right;
+        parts = a.parts;
+        below = All-from_recursion (λ e. Below e.key key) (a.left ++ trail.before)
+            (all_both (λ (e : Item). Below e.key key) a.left trail.before a.below
+            (all_weaker (IsBelow key) (λ (e : Item). Below e.key key) trail.before (λ e low. low.1)
+            (recursion_from_All (IsBelow key) trail.before trail.place_is.below)));
+        begins = begins key (key_behind [] trail.before) trail.behind a.right found place.is_equal trail.found_is
+            (leaves_right [] trail.before trail.behind leaves) trail.place_is.equal trail.place_is.above a.above;
+      }

@@ -4,3 +4,4 @@ mod FindLemmas
 mod TrailLemmas
 mod SideLemmas
 mod FoundLemmas
+mod ValueLemmas

@@ -12,6 +12,7 @@ use Rattle.gds_tree.specs.Below.{HasEntries}
 use Rattle.gds_tree.specs.Lawful.{IsAboveLow, IsBelowHigh}
 use Rattle.m_key.specs.KeyEnd.{IsKey}
 use Rattle.gds_find.specs.declared.trail.Step.{Step}
+use Rattle.gds_find.specs.declared.trail.Trail.{Trail}
 
 -- what clauses see of the steps of a trail: block and offset of each
 abbrev pub steps_of : List Step → Steps
@@ -47,3 +48,7 @@ pub record IsTrail (file : List ℕ) (root : Visit) (key : List ℕ) (steps : St
   pub behind : List Item
   pub place_is : IsPlaceFor entries key place before behind
   pub found_is : found ≡ place.is_equal
+
+-- the same of a trail of the code
+abbrev pub HasTrail : List ℕ → Visit → List ℕ → Trail → Type 0
+HasTrail file root key trail = IsTrail file root key (steps_of trail.steps.items) trail.found trail.place

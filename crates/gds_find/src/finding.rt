@@ -3,11 +3,11 @@ ghost use Rattle.gds_base.specs.Drafting.{IsDraftFor, WithDraft};
 ghost use Rattle.gds_base.specs.Ending.{EndsReading};
 ghost use Rattle.gds_law.specs.Visit.{Visit};
 ghost use Rattle.gds_units.specs.Reading.{OnlyRead};
-ghost use Rattle.gds_find.specs.Trail.{HasTreeFor, IsTrail, steps_of};
+ghost use Rattle.gds_find.specs.Trail.{HasTrail, HasTreeFor, steps_of};
 ghost use Rattle.gds_find.specs.Turn.{IsDueTurn, TrailsOn, TurnsAt, most_blocks};
 
 use crate::trail::{Step, Trail};
-use crate::turning::{Turn, turn_in};
+use crate::turning::{Turn, are_bytes, turn_in};
 use gds_base::{Base, BaseError};
 use gds_draft::Draft;
 use host_model::Host;
@@ -25,8 +25,7 @@ pub fn find<H: Host>(
 ) -> Result<(), BaseError>
     requires { IsDraftFor base.old.header draft.now }
     ensures found { OnOk result (WithDraft base.old draft.now (λ file. (v : Visit)
-        → HasTreeFor file v root None key.now
-        → IsTrail file v key.now (steps_of trail.new.steps.items) trail.new.found trail.new.place)) }
+        → HasTreeFor file v root None key.now → HasTrail file v key.now trail.new)) }
     ensures count { OnOk result ((1 ≤ length trail.new.steps.items) × (length trail.new.steps.items ≤ 8)) }
     ensures within { OnOk result (All (λ s. s.block < draft.now.header.total) trail.new.steps.items) }
     ensures read { OnlyRead H.told H.moment H.failures H.left_since base.old base.new }
@@ -105,8 +104,3 @@ fn turn_at<H: Host>(
     are_bytes(bytes);
     turn_in(bytes, due, key).ok_or(changed)
 }
-
-// Does nothing: the items of a slice of bytes are bytes.
-fn are_bytes(bytes: &[u8])
-    ensures { All (λ b. b < 256) bytes.now }
-{}

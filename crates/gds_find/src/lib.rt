@@ -5,7 +5,9 @@ mod finding;
 mod laws;
 mod trail;
 mod turning;
+mod value;
 
 pub use finding::find;
 pub use laws::{items_at_trail, items_beside};
 pub use trail::{Step, Trail};
+pub use value::value_at;

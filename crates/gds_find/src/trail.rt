@@ -1,3 +1,5 @@
+ghost use Rattle.std.specs.Prelude.{◌≡◌, [], false};
+
 use arrayvec::ArrayVec;
 use gds_search::Place;
 
@@ -22,7 +24,10 @@ pub struct Trail {
 
 impl Trail {
     /// No way.
-    pub fn new() -> Trail {
+    pub fn new() -> Trail
+        ensures steps { result.steps.items ≡ [] }
+        ensures found { result.found ≡ false }
+    {
         Trail {
             steps: ArrayVec::new(),
             found: false,

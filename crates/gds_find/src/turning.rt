@@ -1,4 +1,4 @@
-ghost use Rattle.std.specs.Prelude.{◌≡◌, ◌<◌, ◌^◌, ◌↔◌, ℕ, List, length, IfSome, IsSomeAnd, IsTrue};
+ghost use Rattle.std.specs.Prelude.{◌≡◌, ◌<◌, ◌^◌, ◌↔◌, ℕ, All, List, length, IfSome, IsSomeAnd, IsTrue};
 ghost use Rattle.gds_block.specs.Item.{Item};
 ghost use Rattle.m_key.specs.KeyEnd.{IsKey};
 ghost use Rattle.gds_search.specs.PackedBlock.{IsPackedBlock};
@@ -67,3 +67,8 @@ fn is_due(due: Option<u8>, level: u8) -> bool
         None => (1..=7).contains(&level),
     }
 }
+
+/// Does nothing: the items of a slice of bytes are bytes.
+pub(crate) fn are_bytes(bytes: &[u8])
+    ensures { All (λ b. b < 256) bytes.now }
+{}
