@@ -1,0 +1,4 @@
+pub mod NameLemmas
+pub mod FileLemmas
+mod AskLemmas
+mod EndingLemmas
