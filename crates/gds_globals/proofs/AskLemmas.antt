@@ -145,16 +145,16 @@ module _ (told : Option (List ℕ)) (d : DraftState) where
       → Holds key value
       → With (λ file. (t : Tree) → tree_at file directory_root ≡ Some t → IsRootOf t.items whole None)
   no_root key whole same is_key value none h image is t found =
-      let has : IsValueOf t.items key value = h image is directory_root (directory_for (drafted d image) key is_key t found)
-      in
+      let has : IsValueOf t.items key value =
+      h image is directory_root (directory_for (drafted d image) key is_key t found) in
       subst (λ k. IsRootOf t.items k None) same (subst (IsValueOf t.items key) none has)
 
   pub root_there : (key whole : List ℕ) → key ≡ whole → IsKey key → (value : Option (List ℕ)) (rest : List ℕ)
       → value ≡ Some rest → Holds key value → (root : ℕ) → u32_at rest 0 ≡ root
       → With (λ file. (t : Tree) → tree_at file directory_root ≡ Some t → IsRootOf t.items whole (Some root))
   root_there key whole same is_key value rest some h root is_root image is t found =
-      let has : IsValueOf t.items key value = h image is directory_root (directory_for (drafted d image) key is_key t found)
-      in
+      let has : IsValueOf t.items key value =
+      h image is directory_root (directory_for (drafted d image) key is_key t found) in
       subst (λ k. IsRootOf t.items k (Some root)) same (rest, subst (IsValueOf t.items key) some has, is_root)
 
   pub no_pointer : ForSome told (λ image. IsDraftOf image d) → (key : List ℕ) → IsKey key

@@ -60,7 +60,7 @@ zip_in R (z ∷ xs) [] h x i = absurd h
 zip_in R (z ∷ xs) (y ∷ ys) h x (inl e) = (y, subst (λ w. R w y) e h.0)
 zip_in R (z ∷ xs) (y ∷ ys) h x (inr i) = zip_in R xs ys h.1 x i
 
-some_same : (s t : Tree) → Some s ≡ Some t → s ≡ t
+pub some_same : (s t : Tree) → Some s ≡ Some t → s ≡ t
 some_same s t e = cc
 
 -- ---- one tree
@@ -106,13 +106,14 @@ module _ (file : List ℕ) (i : IsImage file) where
 
 -- ---- the global of a node
 
+-- its entry in the directory
+abbrev pub entry_of : Place → List ℕ → Item
+entry_of p rest = record { key = name_key p.node.name; rest = rest }
+
 module _ (file : List ℕ) (i : IsImage file) (d : Tree) (globals : List Tree) (s : IsSound file d globals) (p : Place)
   where
-    -- the entry that names a root
-    abbrev Entry : List ℕ → Item
-    Entry rest = record { key = name_key p.node.name; rest = rest }
-
-    root_is : (rest : List ℕ) (root : ℕ) → u32_at rest 0 ≡ root → root_of (Entry rest) ≡ global_root root p.node.name
+    root_is : (rest : List ℕ) (root : ℕ) → u32_at rest 0 ≡ root
+        → root_of (entry_of p rest) ≡ global_root root p.node.name
     root_is rest root e =
         ap (λ n. global_root n (name_part (name_key p.node.name))) e
         ∙ ap (global_root root) (name_of_key p.node.name p.right.name)
@@ -121,12 +122,13 @@ module _ (file : List ℕ) (i : IsImage file) (d : Tree) (globals : List Tree) (
         → (t : Tree) × (tree_at file (global_root root p.node.name) ≡ Some t)
     global_tree root (rest, there, leads) =
         let t = zip_in (λ (e : Item) (t : Tree). tree_at file (root_of e) ≡ Some t) d.items globals s.global_trees
-        (Entry rest) (in_from_Contains d.items (Entry rest) there) in
+        (entry_of p rest) (in_from_Contains d.items (entry_of p rest) there) in
         (t.0, ap (tree_at file) (sym (root_is rest root leads)) ∙ t.1)
 
     pub root_low : (root : ℕ) → IsRootOf d.items (name_key p.node.name) (Some root) → root < (fields_of file).total
     root_low root (rest, there, leads) =
-        let points = entry_points file i d s.directory_tree (Entry rest) (in_from_Contains d.items (Entry rest) there) in
+        let in_d = in_from_Contains d.items (entry_of p rest) there in
+        let points = entry_points file i d s.directory_tree (entry_of p rest) in_d in
         omega (arith, points.leads.within, leads)
 
 -- ---- a node
@@ -164,11 +166,11 @@ module _ (file : List ℕ) (i : IsImage file) (d : Tree) (globals : List Tree) (
       → tree_at file (global_root root p.node.name) ≡ Some t → (value : Option (List ℕ))
       → IsValueOf t.items (key_bytes p.node) value → get m p ≡ value
   value_is root (rest, there, leads) t found (Some value) has =
-      let in_d = in_from_Contains d.items (Entry file i d globals s p rest) there in
+      let in_d = in_from_Contains d.items (entry_of p rest) there in
       let item : Item = record { key = key_bytes p.node; rest = value } in
       (st.pairs p value).1 (in_value file d globals m s st.kept st.are_kept item
       (under_in file d.items globals item s.global_trees (record {
-        entry = Entry file i d globals s p rest;
+        entry = entry_of p rest;
         entry_in = in_d;
         one = t;
         found = ap (tree_at file) (root_is file i d globals s p rest root leads) ∙ found;
@@ -180,10 +182,10 @@ module _ (file : List ℕ) (i : IsImage file) (d : Tree) (globals : List Tree) (
       by None e = refl
       by (Some value) e =
           let u = under value e in
-          let in_d = in_from_Contains d.items (Entry file i d globals s p rest) there in
-          let rises =
-          (sound_ordered file (level_of (block_of file directory_root.block)) directory_root d s.directory_tree).rising in
-          let entry : u.entry ≡ Entry file i d globals s p rest = one_item d.items rises u.entry (Entry file i d globals s p rest) u.entry_in in_d
+          let in_d = in_from_Contains d.items (entry_of p rest) there in
+          let level : ℕ = level_of (block_of file directory_root.block) in
+          let rises = (sound_ordered file level directory_root d s.directory_tree).rising in
+          let entry : u.entry ≡ entry_of p rest = one_item d.items rises u.entry (entry_of p rest) u.entry_in in_d
           (under_name value e) in
           let tree : u.one ≡ t = some_same u.one t (sym u.found ∙ ap (λ w. tree_at file (root_of w)) entry
           ∙ ap (tree_at file) (root_is file i d globals s p rest root leads) ∙ found) in

@@ -2,3 +2,5 @@ pub mod NameLemmas
 pub mod FileLemmas
 mod AskLemmas
 mod EndingLemmas
+pub mod SetLemmas
+pub mod NewGlobalLemmas

@@ -2,5 +2,7 @@
 #![tactic(auto)]
 
 mod asking;
+mod laws;
 
 pub use asking::get;
+pub use laws::item_of_global;

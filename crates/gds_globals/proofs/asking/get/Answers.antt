@@ -16,8 +16,8 @@ returns-in_err-root-clause-ends g c =
     let empty = empty_of told c.draft-draft.result c.args.base.now.header c.draft-draft.ensures.header
     c.draft-draft.ensures.none c.header.ensures.fields c.hold_draft.ensures in
     let exit = err_from_is_err_and c.from_residual-in_err-root.result c.from_residual-in_err-root.ensures.1 in
-    asked _ _ (h.failures c.args.base.now.host) (h.failures c.args.base.now.host) (h.failures c.root_of.new.base.host) _ _
-    (NeverFell-refl (h.failures c.args.base.now.host))
+    let before = h.failures c.args.base.now.host in
+    asked _ _ before before (h.failures c.root_of.new.base.host) _ _ (NeverFell-refl before)
     (never_changed told c.draft-draft.result empty c.header.ensures.faultless (place_of c.args.reference.now))
     c.root_of.result c.from_residual-in_err-root.result c.in_err-root.field-0.0 c.root_of.ensures.ends c.in_err-root.was
     (exit.1 ∙ ap Err exit.2)
