@@ -8,3 +8,16 @@ pub mod PieceLemmas
 pub mod AncestorLemmas
 pub mod RaisedLemmas
 pub mod LeafLemmas
+pub mod PackableLemmas
+pub mod RunLemmas
+pub mod EntriesPutLemmas
+pub mod DraftingLemmas
+pub mod TakingLemmas
+pub mod CuttingLemmas
+pub mod PutLemmas
+pub mod AboveLemmas
+pub mod ToldLemmas
+pub mod DividedLemmas
+pub mod EndingLemmas
+pub mod OneUpLemmas
+pub mod PartingLemmas
