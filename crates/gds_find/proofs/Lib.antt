@@ -1,5 +1,5 @@
 mod TurningLemmas
-mod WayLemmas
+pub mod WayLemmas
 mod FindLemmas
 mod TrailLemmas
 mod SideLemmas

@@ -112,7 +112,7 @@ pub rest_whole : {A : Type 0} (k : ℕ) (xs : List A) → take (length xs - k) (
 rest_whole k xs = take_all (length xs - k) (drop k xs) (omega (arith, length-drop k xs))
 
 -- Each record takes some bytes, so only one front of entries takes so many.
-packed_size-more : (es : List Item) (m n : ℕ) → m < n → n ≤ length es
+pub packed_size-more : (es : List Item) (m n : ℕ) → m < n → n ≤ length es
     → packed_size (take m es) < packed_size (take n es)
 packed_size-more es m n fewer within =
     let there : m + (n - m) ≡ n = omega arith in

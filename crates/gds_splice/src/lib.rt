@@ -26,5 +26,6 @@ pub use packable::is_packable;
 pub use parting::part;
 pub use parts::{Part, Parts};
 pub use pieces::write_pieces;
+pub use sizes::place_at;
 pub use taking::take_blocks;
 pub use writing::put_entries;

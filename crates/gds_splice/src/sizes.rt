@@ -59,7 +59,7 @@ fn fitting(entries: &[Entry], limit: u32) -> usize
 }
 
 /// Where the entry is whose record begins at an offset in the packed block, if there is one.
-pub(crate) fn place_at(entries: &[Entry], offset: u32) -> Option<usize>
+pub fn place_at(entries: &[Entry], offset: u32) -> Option<usize>
     ensures found { IfSome result (λ i. (i < length entries.now)
         × (packed_size (items (take i entries.now)) ≡ offset)) }
     ensures none { IfNone result ((front : List Item) (e : Item) (back : List Item)
