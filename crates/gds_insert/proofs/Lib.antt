@@ -1,0 +1,10 @@
+pub mod LeafLemmas
+pub mod SetLemmas
+pub mod EditLemmas
+pub mod AfterLemmas
+pub mod EntryLemmas
+pub mod PieceLemmas
+pub mod DivideLemmas
+pub mod NodeLemmas
+pub mod ToldLemmas
+pub mod SettingLemmas

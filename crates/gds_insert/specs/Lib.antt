@@ -1,0 +1,5 @@
+pub mod SetIn
+pub mod Leaf
+pub mod LeafLaws
+pub mod Setting
+pub mod Node
