@@ -4,3 +4,6 @@ mod AskLemmas
 mod EndingLemmas
 pub mod SetLemmas
 pub mod NewGlobalLemmas
+mod PlantingLemmas
+mod MayLemmas
+mod SettingLemmas

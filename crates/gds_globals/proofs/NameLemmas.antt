@@ -1,15 +1,21 @@
 -- The keys of globals in the directory.
-use Rattle.std.proofs.Common.{◌≡◌, ℕ, ◌==◌, Bool, true, false, cond, List, [], ◌∷◌, length, drop}
+use Rattle.std.proofs.Common.{◌≡◌, ℕ, ◌<◌, ◌≤◌, ◌==◌, Bool, true, false, cond, List, [], ◌∷◌, ◌++◌, length}
+use Rattle.std.proofs.Common.{drop, flat_map, None}
+use Rattle.std.specs.Prelude.{All}
 use Rattle.std.proofs.Common.{sym, ap, subst, ◌∙◌, arith}
 use Rattle.std.specs.List.{onto_first}
 use Rattle.std.proofs.lemmas.List.{length-append}
-use Rattle.std.proofs.lemmas.List.Elements.{All-from_recursion}
-use Rattle.m_key.specs.Key.{key_bytes}
+use Rattle.std.proofs.lemmas.List.Elements.{All-append, All-from_recursion, recursion_from_All}
+use Rattle.m_key.specs.Key.{ended, key_bytes}
 use Rattle.m_key.specs.KeyEnd.{IsKey}
 use Rattle.m_key.specs.KeyParts.{name_part, pieces, subscript_parts}
 use Rattle.m_key.specs.Node.{Node, IsName, IsNode, IsSubscript}
-use Rattle.m_key.proofs.KeyLemmas.{key-is}
-use Rattle.m_key.proofs.KeyPartLemmas.{first_piece, two_zeros, whole_pieces}
+use Rattle.m_key.proofs.KeyLemmas.{NoZero-name, key-is}
+use Rattle.m_key.proofs.NumberLemmas.{numbers}
+use Rattle.gds_law.specs.Key.{key_fault}
+use Rattle.gds_law.proofs.KeyLemmas.{key_test}
+use Rattle.m_key.proofs.KeyPartLemmas.{Bytes, bytes_front, first_piece, pieces-alone, subscript_parts-is}
+use Rattle.m_key.proofs.KeyPartLemmas.{two_zeros, whole_pieces}
 use Rattle.m_key.proofs.NodeEndLemmas.{IsKey-key_bytes}
 use Rattle.gds_sound.proofs.PairLemmas.{key_name}
 use Rattle.gds_globals.specs.Node.{name_key}
@@ -65,3 +71,31 @@ plain_key key is none =
     let one : pieces front.0 ≡ name_part key ∷ [] =
     whole_pieces front.0 ∙ ap (λ k. name_part k ∷ subscript_parts k) (sym front.1) ∙ ap (λ l. name_part key ∷ l) none in
     front.1 ∙ ap name_key (only_piece front.0 (name_part key) one)
+
+-- The key of a name has no subscripts, and no bytes but those that stand in the keys of its nodes.
+pub no_parts_of_name : (name : List ℕ) → IsName name → subscript_parts (name_key name) ≡ []
+no_parts_of_name name is =
+    let some = NoZero-name numbers (bare name) (bare_right name is) in
+    subscript_parts-is name ∙ ap (drop 1) (pieces-alone name (All-from_recursion (λ b. 0 < b) name some))
+
+pub name_no_longer : (n : Node) → length (name_key n.name) ≤ length (key_bytes n)
+name_no_longer n =
+    let rest : List ℕ = flat_map ended n.subscripts ++ 0 ∷ [] in
+    omega (
+      arith,
+      ap length (key-is n),
+      length-append n.name (0 ∷ rest),
+      length-append n.name (0 ∷ 0 ∷ []),
+      length-append (flat_map ended n.subscripts) (0 ∷ []),
+    )
+
+pub no_fault_of_name : (n : Node) → IsNode n → All (λ b. b < 256) (key_bytes n) → key_fault (name_key n.name) ≡ None
+no_fault_of_name n right bytes =
+    let rest : List ℕ = flat_map ended n.subscripts ++ 0 ∷ [] in
+    let own : Bytes n.name =
+    bytes_front n.name (0 ∷ rest) (subst Bytes (key-is n) (recursion_from_All (λ b. b < 256) (key_bytes n) bytes)) in
+    let zeros : All (λ b. b < 256) (0 ∷ 0 ∷ []) =
+    All-from_recursion (λ b. b < 256) (0 ∷ 0 ∷ []) (omega arith, (omega arith, tt)) in
+    (key_test (name_key n.name) (is_name_key n.name right.name).whole
+    (All-append (λ b. b < 256) n.name (0 ∷ 0 ∷ []) (All-from_recursion (λ b. b < 256) n.name own) zeros)).1
+    (bare n.name, bare_right n.name right.name, bare_key n.name)

@@ -113,17 +113,20 @@ module _ (before planted : List ℕ) (d : Tree) (globals : List Tree) (s : IsSou
   same_header : fields_of planted ≡ fields_of pl.mid
   same_header = rewrite_keeps_header pl.mid planted both_blocks pl.rewrites
 
-  total_same : (fields_of planted).total ≡ (fields_of before).total
-  total_same = ap (λ (h : Header). h.total) (same_header ∙ t.fields)
+  pub key_max_kept : (fields_of planted).key_max ≡ (fields_of before).key_max
+  key_max_kept = ap (λ (h : Header). h.key_max) (same_header ∙ t.fields)
 
-  has_root : IsTrue (has_block both_blocks root)
+  pub total_kept : (fields_of planted).total ≡ (fields_of before).total
+  total_kept = ap (λ (h : Header). h.total) (same_header ∙ t.fields)
+
+  pub has_root : IsTrue (has_block both_blocks root)
   has_root = or_left (nat_eq root root) _ (eq-eqb root root refl)
 
   has_leaf : IsTrue (has_block both_blocks leaf)
   has_leaf = or_right (nat_eq leaf root) _ (or_left (nat_eq leaf leaf) _ (eq-eqb leaf leaf refl))
 
-  number_now : (n : ℕ) → IsTrue (has_block both_blocks n) → IsTreeNumber (fields_of planted).total n
-  number_now n there = subst (λ total. IsTreeNumber total n) (sym total_same) (numbers n there)
+  pub number_now : (n : ℕ) → IsTrue (has_block both_blocks n) → IsTreeNumber (fields_of planted).total n
+  number_now n there = subst (λ total. IsTreeNumber total n) (sym total_kept) (numbers n there)
 
   -- the leaf
   abbrev leaf_visit : Visit
@@ -224,10 +227,12 @@ module _ (before planted : List ℕ) (d : Tree) (globals : List Tree) (s : IsSou
   busy_planted n there =
       own_change.busy n (number_now n there).within (numbers n there).no_map ∙ or_left (has_block both_blocks n) _ there
 
-  planting : Reshapes before planted d.blocks (both_blocks ++ d.blocks)
+  pub planted_beside : Reshapes before planted [] both_blocks
+  planted_beside = reshapes_compose before pl.mid planted [] both_blocks both_blocks t.reshapes own_change
+
+  pub planting : Reshapes before planted d.blocks (both_blocks ++ d.blocks)
   planting =
-      reshapes_with_more before planted [] both_blocks d.blocks
-      (reshapes_compose before pl.mid planted [] both_blocks both_blocks t.reshapes own_change)
+      reshapes_with_more before planted [] both_blocks d.blocks planted_beside
       (busy_directory before d globals s) (λ n there. refl)
 
   -- ---- the entry that leads to it

@@ -24,7 +24,7 @@ use m_key::{Key, Name, Reference, join_key, key_of};
 use std::alloc::Global;
 
 /// The root of the directory, which has the root of each global.
-const DIRECTORY: u32 = 1;
+pub(crate) const DIRECTORY: u32 = 1;
 
 /// The value of a node, or `None` where it has none.
 pub fn get<H: Host>(
@@ -49,7 +49,7 @@ pub fn get<H: Host>(
 }
 
 // The key of a reference, if it has no more bytes than the header allows.
-fn short_key(header: &Header, reference: &Reference) -> Result<Key, BaseError>
+pub(crate) fn short_key(header: &Header, reference: &Reference) -> Result<Key, BaseError>
     requires { header.now.key_max ≤ 255 }
     ensures key { IfOk result (λ key. key.items ≡ key_bytes (node_of reference.now)) }
     ensures short { IfOk result (λ key. length key.items ≤ 255) }
@@ -64,7 +64,7 @@ fn short_key(header: &Header, reference: &Reference) -> Result<Key, BaseError>
 }
 
 // The root of the tree of a global, if the directory has its name.
-fn root_of<H: Host>(
+pub(crate) fn root_of<H: Host>(
     alloc: Global,
     base: &mut Base<H>,
     draft: &Draft,
@@ -89,7 +89,7 @@ fn root_of<H: Host>(
 }
 
 // The key of a global in the directory.
-fn directory_key(name: &Name) -> Key
+pub(crate) fn directory_key(name: &Name) -> Key
     ensures key { result.items ≡ name_key (name_bytes name.now) }
     ensures whole { IsKey result.items }
 {

@@ -3,6 +3,9 @@
 
 mod asking;
 mod laws;
+mod planting;
+mod setting;
 
 pub use asking::get;
 pub use laws::item_of_global;
+pub use setting::set_in_draft;
