@@ -1,0 +1,9 @@
+pub mod NameLemmas
+pub mod FileLemmas
+mod AskLemmas
+mod EndingLemmas
+pub mod SetLemmas
+pub mod NewGlobalLemmas
+mod PlantingLemmas
+mod MayLemmas
+mod SettingLemmas

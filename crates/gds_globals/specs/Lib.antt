@@ -1,0 +1,4 @@
+pub mod Node
+pub mod Ending
+pub mod SetLaws
+pub mod Planting
