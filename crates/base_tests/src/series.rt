@@ -186,7 +186,7 @@ fn make_all(alloc: Global, series: &Series, store: &mut Store) -> Result<(u32, u
             Some(BaseError::Full) => full = full.saturating_add(1),
             Some(_) => too_deep = too_deep.saturating_add(1),
         }
-        if number % 500 == 99 {
+        if number % 100 == 99 {
             check(alloc, store)?;
             store.base.epoch()?;
         }
