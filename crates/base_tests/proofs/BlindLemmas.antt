@@ -24,4 +24,5 @@ no_cut old new file n = λ c left. (
 
 pub no_saying : (old new : BlindState) (bytes : List ℕ)
     → Follows (SaysSome bytes) (left_by old old.moment) (left_by new new.moment)
-no_saying old new bytes = λ c left. (c, tt, (0, ap (λ (said : List ℕ). record c { said = said }) (sym (append-nil c.said))))
+no_saying old new bytes = λ c left.
+    (c, tt, (0, ap (λ (said : List ℕ). record c { said = said }) (sym (append-nil c.said))))

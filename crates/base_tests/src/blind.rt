@@ -1,6 +1,6 @@
 //! A host in memory that tells nothing, as real files do.
 
-ghost use Rattle.std.specs.Prelude.{◌≡◌, ◌≤◌, is_ok, length, IsErr};
+ghost use Rattle.std.specs.Prelude.{◌≡◌, ◌≤◌, is_ok, length};
 ghost use Rattle.host_model.specs.Failures.{NeverFell};
 ghost use Rattle.base_tests.specs.Blind.{after_call, after_write};
 ghost use Rattle.base_tests.specs.Blind.{failures_of, left_by, moment_of, tells_nothing, told_by};
