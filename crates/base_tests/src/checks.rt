@@ -62,7 +62,12 @@ pub(crate) fn level_of(
     Ok(node_at(alloc, base, block)?.level)
 }
 
-fn bytes_of(alloc: Global, base: &mut Base<BlindHost>, block: u32) -> Result<Vec<u8>, Trouble> {
+/// The bytes of a block.
+pub(crate) fn bytes_of(
+    alloc: Global,
+    base: &mut Base<BlindHost>,
+    block: u32,
+) -> Result<Vec<u8>, Trouble> {
     let header = base.header();
     if block >= header.total {
         return Err(Trouble::Unreadable(block));
@@ -82,6 +87,34 @@ fn node_at(alloc: Global, base: &mut Base<BlindHost>, block: u32) -> Result<Node
             level: view.level(),
             entries,
         }),
+        None => Err(Trouble::Unreadable(block)),
+    }
+}
+
+/// The children of an index block.
+pub(crate) fn children_of(
+    alloc: Global,
+    base: &mut Base<BlindHost>,
+    block: u32,
+) -> Result<Vec<u32>, Trouble> {
+    let node = node_at(alloc, base, block)?;
+    let mut children = Vec::new(alloc);
+    for entry in node.entries.iter() {
+        let child = pointer_of(&entry.rest).ok_or(Trouble::Unreadable(block))?;
+        children.push(child)?;
+    }
+    Ok(children)
+}
+
+/// The used count of a block.
+pub(crate) fn used_of(
+    alloc: Global,
+    base: &mut Base<BlindHost>,
+    block: u32,
+) -> Result<u32, Trouble> {
+    let bytes = bytes_of(alloc, base, block)?;
+    match BlockView::new(&bytes) {
+        Some(view) => Ok(view.used()),
         None => Err(Trouble::Unreadable(block)),
     }
 }

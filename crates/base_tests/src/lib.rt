@@ -15,3 +15,5 @@ mod series;
 mod store;
 #[cfg(test)]
 mod trouble;
+#[cfg(test)]
+mod worked;
