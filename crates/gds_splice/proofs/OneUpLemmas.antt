@@ -88,7 +88,7 @@ in_right : (xs ys : List ℕ) (n : ℕ) → IsTrue (has_block ys n) → IsTrue (
 in_right [] ys n there = there
 in_right (x ∷ xs) ys n there = ap (λ t. nat_eq n x || t) (in_right xs ys n there) ∙ or-true (nat_eq n x)
 
-in_first : (x : ℕ) (xs : List ℕ) (n : ℕ) → n ≡ x → IsTrue (has_block (x ∷ xs) n)
+pub in_first : (x : ℕ) (xs : List ℕ) (n : ℕ) → n ≡ x → IsTrue (has_block (x ∷ xs) n)
 in_first x xs n is = subst (λ m. IsTrue (has_block (x ∷ xs) m)) (sym is) (search (rules, tests))
 
 -- ---- the index block and its child
@@ -328,7 +328,7 @@ at_root file root a (b ∷ above) child level pieces below step top parts p node
     absurd (false≢true (sym p.at_top ∙ is_top))
 
 -- a root below level 7 takes three, and an index block below others two
-three_for_root : (level free : ℕ) → blocks_taken level [] ≤ free → level < 7 → 3 ≤ free
+pub three_for_root : (level free : ℕ) → blocks_taken level [] ≤ free → level < 7 → 3 ≤ free
 three_for_root level free enough low =
     let other : (level == 7) ≡ false = ne_eqb level 7 (omega arith) in
     let three : blocks_taken level [] ≡ 3 = cond-false (level == 7) _ _ other in
