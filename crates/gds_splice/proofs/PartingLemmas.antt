@@ -39,8 +39,8 @@ pub record IsLast (a : Ancestor) (above : List Ancestor) (outer : List Step) (st
   pub block : a.visit.block ≡ step.block
   pub place : packed_size a.front ≡ step.offset
 
-pub last_step : (a : Ancestor) (above : List Ancestor) (steps outer : List Step) (step : Step) → steps ≡ outer ++ step ∷ []
-    → steps_of steps ≡ steps_to (a ∷ above) → IsLast a above outer step
+pub last_step : (a : Ancestor) (above : List Ancestor) (steps outer : List Step) (step : Step)
+    → steps ≡ outer ++ step ∷ [] → steps_of steps ≡ steps_to (a ∷ above) → IsLast a above outer step
 last_step a above steps outer step is lead =
     let both : steps_of outer ++ (step.block, step.offset) ∷ []
     ≡ steps_to above ++ (a.visit.block, packed_size a.front) ∷ [] =

@@ -1,6 +1,6 @@
 -- Entries in the place of neighbouring children, up to the root.
 use Rattle.std.proofs.Common.{◌≡◌, ◌+◌, ◌≤◌, ℕ, suc, Bool, false, List, [], ◌∷◌, ◌++◌, length, None, Some}
-use Rattle.std.proofs.Common.{sym, ap, ◌∙◌, subst, arith, length-append}
+use Rattle.std.proofs.Common.{sym, ap, ◌∙◌, subst, arith}
 use Rattle.std.specs.Prelude.{◌==◌}
 use Rattle.std.proofs.lemmas.Bool.{false≢true}
 use Rattle.std.proofs.lemmas.List.{length-map}
@@ -13,7 +13,7 @@ use Rattle.gds_pack.specs.Packed.{packed_size}
 use Rattle.gds_sound.specs.Sound.{Tree}
 use Rattle.gds_tree.specs.Around.{around}
 use Rattle.gds_tree.specs.RightBlock.{IsDueLevel}
-use Rattle.gds_ancestors.specs.Ancestors.{Ancestor, outer_blocks, steps_to}
+use Rattle.gds_ancestors.specs.Ancestors.{Ancestor, outer_blocks}
 use Rattle.gds_find.specs.declared.trail.Step.{Step}
 use Rattle.gds_splice.specs.NodePut.{CannotPut, IsHighest, IsToPut, PutsNode}
 use Rattle.gds_splice.specs.Parted.{MayPart, items_around, part_blocks}
@@ -27,14 +27,6 @@ use Rattle.gds_splice.proofs.AncestorLemmas.{becomes_behind}
 use Rattle.gds_splice.proofs.ImageLemmas.{image_of}
 use Rattle.gds_splice.proofs.PartingLemmas.{IsLast, last_step, none_if, steps_long, still_full}
 use Rattle.gds_splice.proofs.SplicingLemmas.{spliced_may_part}
-
--- ---- no steps
-
-pub no_steps_to : (file : List ℕ) (steps : List Step) (taken : ℕ) (put : List Item) → length steps ≡ 0
-    → CannotSplice steps taken put file
-no_steps_to file [] taken put none root above v level p middle s free =
-    omega (arith, ap length s.leads, length-append (steps_to above) ((v.block, packed_size p.front) ∷ []))
-no_steps_to file (x ∷ steps) taken put none root above v level p middle s free = absurd (omega arith)
 
 -- the index block as an ancestor of the first child that goes
 abbrev at_span : Visit → Span → Ancestor
@@ -93,7 +85,8 @@ module _ (file : List ℕ) (steps outer : List Step) (step : Step) (top : Bool) 
 
     -- ---- it stays one block
 
-    pub put_here : (after : List ℕ) → PutsNode step.block top node None file after → SplicesAt steps taken put file after
+    pub put_here : (after : List ℕ) → PutsNode step.block top node None file after
+        → SplicesAt steps taken put file after
     put_here after puts root above v level p middle s =
         puts root above v level (around p.left middle p.right) (to_put root above v level p middle s)
 

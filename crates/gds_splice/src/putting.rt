@@ -18,9 +18,9 @@ use gds_pack::packed_size;
 use host_model::Host;
 use std::alloc::Global;
 
-/// Writes the block of a step, which is the root or isn't, with the entries of a node. Where they don't fit it goes into
-/// parts, of which the one above has to be told, and a root is raised. So many of the entries, from the step's offset
-/// on, are new.
+/// Writes the block of a step, which is the root or isn't, with the entries of a node. Where they don't fit it goes
+/// into parts, of which the one above has to be told, and a root is raised. So many of the entries, from the step's
+/// offset on, are new.
 pub(crate) fn put_node<H: Host>(
     alloc: Global,
     base: &mut Base<H>,

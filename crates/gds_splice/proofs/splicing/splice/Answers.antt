@@ -37,16 +37,21 @@ returns-in_err-own-clause-ends g c =
     let put : List Item = items c.args.put.items in
     let node : Node = c.in_ok-node.node in
     let read = c.in_ok-node.ensures.read in
-    parting_exit (Option Parts) (Unit {0}) (h.failures c.args.base.now.host) (h.failures c.read_spliced.new.base.host)
-    (h.failures c.put_node.new.base.host) _ _ _ _ c.in_err-own.field-0.0 c.from_residual-in_err-own.result
+    parting_exit (Option Parts) (Unit {0}) (h.failures c.args.base.now.host)
+    (h.failures c.read_spliced.new.base.host) (h.failures c.put_node.new.base.host) _ _ _ _
+    c.in_err-own.field-0.0 c.from_residual-in_err-own.result
     read.read.failures
     (λ cannot image told.
-    let told' = same_image h.told h.moment h.failures h.left_since c.args.base.now c.read_spliced.new.base read ∙ told in
-    cannot_put (drafted c.args.draft.now image) steps outer step c.is_empty.result c.args.taken put is top node (c.in_ok-node.ensures.spliced image told)
+    let told' = same_image h.told h.moment h.failures h.left_since c.args.base.now c.read_spliced.new.base read
+    ∙ told in
+    cannot_put (drafted c.args.draft.now image) steps outer step c.is_empty.result c.args.taken put is top node
+    (c.in_ok-node.ensures.spliced image told)
     (cannot image told'))
     (λ high image told.
-    let told' = same_image h.told h.moment h.failures h.left_since c.args.base.now c.read_spliced.new.base read ∙ told in
-    deep_here (drafted c.args.draft.now image) steps outer step c.is_empty.result c.args.taken put is top node (c.in_ok-node.ensures.spliced image told)
+    let told' = same_image h.told h.moment h.failures h.left_since c.args.base.now c.read_spliced.new.base read
+    ∙ told in
+    deep_here (drafted c.args.draft.now image) steps outer step c.is_empty.result c.args.taken put is top node
+    (c.in_ok-node.ensures.spliced image told)
     (high image told'))
     c.from_residual-in_err-own.ensures.1 c.in_err-own.ensures.ends
 
@@ -63,8 +68,10 @@ returns-in_default-2-clause-spliced g c image told =
     let read = c.in_ok-node.ensures.read in
     let file : List ℕ = drafted c.args.draft.now image in
     let mid : List ℕ = drafted c.put_node.new.draft image in
-    let told' = same_image h.told h.moment h.failures h.left_since c.args.base.now c.read_spliced.new.base read ∙ told in
-    put_here file steps outer step c.is_empty.result c.args.taken put is top node (c.in_ok-node.ensures.spliced image told) mid
+    let told' = same_image h.told h.moment h.failures h.left_since c.args.base.now c.read_spliced.new.base read
+    ∙ told in
+    put_here file steps outer step c.is_empty.result c.args.taken put is top node
+    (c.in_ok-node.ensures.spliced image told) mid
     (subst (λ own. PutsNode step.block c.is_empty.result node own file mid) c.in_default-2.is
     (c.in_ok-own.ensures.put image told'))
 
@@ -84,10 +91,12 @@ returns-clause-spliced g c =
     on_ok_weaker c.part.result (λ rest image told.
     let file : List ℕ = drafted c.args.draft.now image in
     let mid : List ℕ = drafted c.put_node.new.draft image in
-    let told' = same_image h.told h.moment h.failures h.left_since c.args.base.now c.read_spliced.new.base read ∙ told in
+    let told' = same_image h.told h.moment h.failures h.left_since c.args.base.now c.read_spliced.new.base read
+    ∙ told in
     let told'' = same_image h.told h.moment h.failures h.left_since c.read_spliced.new.base c.put_node.new.base
     c.in_ok-own.ensures.drafts.read ∙ told' in
-    put_up file steps outer step c.is_empty.result c.args.taken put is top node (c.in_ok-node.ensures.spliced image told) mid
+    put_up file steps outer step c.is_empty.result c.args.taken put is top node
+    (c.in_ok-node.ensures.spliced image told) mid
     c.in-Some-2.own up.0
     (subst (λ own. PutsNode step.block c.is_empty.result node own file mid) c.in-Some-2.is
     (c.in_ok-own.ensures.put image told'))
@@ -114,10 +123,12 @@ returns-clause-ends g c =
     (λ cannot image told.
     let file : List ℕ = drafted c.args.draft.now image in
     let mid : List ℕ = drafted c.put_node.new.draft image in
-    let told' = same_image h.told h.moment h.failures h.left_since c.args.base.now c.read_spliced.new.base read ∙ told in
+    let told' = same_image h.told h.moment h.failures h.left_since c.args.base.now c.read_spliced.new.base read
+    ∙ told in
     let told'' = same_image h.told h.moment h.failures h.left_since c.read_spliced.new.base c.put_node.new.base
     c.in_ok-own.ensures.drafts.read ∙ told' in
-    cannot_up file steps outer step c.is_empty.result c.args.taken put is top node (c.in_ok-node.ensures.spliced image told) mid
+    cannot_up file steps outer step c.is_empty.result c.args.taken put is top node
+    (c.in_ok-node.ensures.spliced image told) mid
     c.in-Some-2.own up.0
     (subst (λ own. PutsNode step.block c.is_empty.result node own file mid) c.in-Some-2.is
     (c.in_ok-own.ensures.put image told'))
@@ -125,16 +136,19 @@ returns-clause-ends g c =
       arith,
       up.1,
       ap (λ (x : Header). x.free) (drafted_fields image c.args.draft.now (c.hold_draft.ensures image told)),
-      ap (λ (x : Header). x.free) (drafted_fields image c.put_node.new.draft (c.hold_draft-2.ensures image told'')),
+      ap (λ (x : Header). x.free) (drafted_fields image c.put_node.new.draft
+          (c.hold_draft-2.ensures image told'')),
     ))
     (cannot image told''))
     (λ grows image told.
     let file : List ℕ = drafted c.args.draft.now image in
     let mid : List ℕ = drafted c.put_node.new.draft image in
-    let told' = same_image h.told h.moment h.failures h.left_since c.args.base.now c.read_spliced.new.base read ∙ told in
+    let told' = same_image h.told h.moment h.failures h.left_since c.args.base.now c.read_spliced.new.base read
+    ∙ told in
     let told'' = same_image h.told h.moment h.failures h.left_since c.read_spliced.new.base c.put_node.new.base
     c.in_ok-own.ensures.drafts.read ∙ told' in
-    deep_up file steps outer step c.is_empty.result c.args.taken put is top node (c.in_ok-node.ensures.spliced image told) mid
+    deep_up file steps outer step c.is_empty.result c.args.taken put is top node
+    (c.in_ok-node.ensures.spliced image told) mid
     c.in-Some-2.own up.0
     (subst (λ own. PutsNode step.block c.is_empty.result node own file mid) c.in-Some-2.is
     (c.in_ok-own.ensures.put image told'))
