@@ -21,4 +21,8 @@ pub mod DividedLemmas
 pub mod EndingLemmas
 pub mod HalfLemmas
 pub mod OneUpLemmas
+pub mod NodePutLemmas
+pub mod ChangingLemmas
 pub mod PartingLemmas
+pub mod SplicingLemmas
+pub mod SpliceUpLemmas

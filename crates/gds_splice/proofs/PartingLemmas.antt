@@ -2,13 +2,14 @@
 use Rattle.std.proofs.Common.{◌≡◌, ◌+◌, ◌≤◌, ℕ, suc, Bool, false, List, [], ◌∷◌, ◌++◌, length, refl, sym, ap, ◌∙◌}
 use Rattle.std.proofs.Common.{arith}
 use Rattle.std.proofs.Common.{length-append, rules, tests}
-use Rattle.std.specs.Prelude.{◌==◌}
+use Rattle.std.specs.Prelude.{◌==◌, All}
 use Rattle.std.proofs.lemmas.Bool.{false≢true}
 use Rattle.std.proofs.lemmas.List.{length-map, map-append}
 use Rattle.std.proofs.lemmas.List.Elements.{All-cons, All-from_recursion, recursion_from_All}
 use Rattle.std.specs.List.{AllByRecursion}
 use Rattle.gds_file.specs.Reshape.{KeepsLimits}
 use Rattle.gds_header.specs.Fields.{fields_of}
+use Rattle.gds_header.specs.declared.header.Header.{Header}
 use Rattle.gds_law.specs.Visit.{Visit}
 use Rattle.gds_pack.specs.Packed.{packed_size}
 use Rattle.gds_sound.specs.Sound.{Tree}
@@ -26,20 +27,20 @@ use Rattle.gds_splice.proofs.AncestorLemmas.{ancestor_becomes, becomes_behind}
 
 -- ---- the last step
 
-steps_long : (above : List Ancestor) → length (steps_to above) ≡ length above
+pub steps_long : (above : List Ancestor) → length (steps_to above) ≡ length above
 steps_long [] = refl
 steps_long (a ∷ above) =
     length-append (steps_to above) ((a.visit.block, packed_size a.front) ∷ [])
     ∙ omega (arith, steps_long above)
 
 -- The last step is to the innermost ancestor, and those before it are to the others.
-record IsLast (a : Ancestor) (above : List Ancestor) (outer : List Step) (step : Step) : Type 0 where
+pub record IsLast (a : Ancestor) (above : List Ancestor) (outer : List Step) (step : Step) : Type 0 where
   pub outer_lead : steps_of outer ≡ steps_to above
   pub block : a.visit.block ≡ step.block
   pub place : packed_size a.front ≡ step.offset
 
-last_step : (a : Ancestor) (above : List Ancestor) (steps outer : List Step) (step : Step) → steps ≡ outer ++ step ∷ []
-    → steps_of steps ≡ steps_to (a ∷ above) → IsLast a above outer step
+pub last_step : (a : Ancestor) (above : List Ancestor) (steps outer : List Step) (step : Step)
+    → steps ≡ outer ++ step ∷ [] → steps_of steps ≡ steps_to (a ∷ above) → IsLast a above outer step
 last_step a above steps outer step is lead =
     let both : steps_of outer ++ (step.block, step.offset) ∷ []
     ≡ steps_to above ++ (a.visit.block, packed_size a.front) ∷ [] =
@@ -59,7 +60,7 @@ last_step a above steps outer step is lead =
       place = ap (λ (p : ℕ × ℕ). p.1) (sym parts.one);
     }
 
-none_if : (above : List Ancestor) (n : ℕ) (top : Bool) → n ≡ length above → top ≡ (n == 0) → AreNone above top
+pub none_if : (above : List Ancestor) (n : ℕ) (top : Bool) → n ≡ length above → top ≡ (n == 0) → AreNone above top
 none_if [] n top long is = is ∙ ap (λ k. k == 0) long
 none_if (a ∷ above) n top long is = is ∙ ap (λ k. k == 0) long ∙ search (rules, tests)
 
@@ -89,6 +90,19 @@ no_steps file [] parts none root a above child level pieces below p free =
       length-append (steps_to above) ((a.visit.block, packed_size a.front) ∷ []),
     )
 no_steps file (s ∷ steps) parts none root a above child level pieces below p free = absurd (omega arith)
+
+-- ---- blocks that were full before
+
+all_still_full : (h g : Header) → KeepsLimits h g → (above : List Ancestor) → AllByRecursion (IsFull g) above
+    → AllByRecursion (IsFull h) above
+all_still_full h g limits [] full = tt
+all_still_full h g limits (c ∷ above) full =
+    (omega (arith, full.0, limits.block_size, limits.key_max), all_still_full h g limits above full.1)
+
+pub still_full : (h g : Header) → KeepsLimits h g → (above : List Ancestor) → All (IsFull g) above
+    → All (IsFull h) above
+still_full h g limits above full =
+    All-from_recursion (IsFull h) above (all_still_full h g limits above (recursion_from_All (IsFull g) above full))
 
 -- ---- one block told
 
@@ -161,12 +175,6 @@ module _ (file : List ℕ) (steps outer : List Step) (step : Step) (top : Bool) 
         rest root b above a.visit (suc level) u.own (around a.left p.parted.over.tree a.right)
         (next root a b above child level pieces below p) (omega (arith, free, kept))
 
-    still_full : KeepsLimits (fields_of file) (fields_of mid) → (above : List Ancestor)
-        → AllByRecursion (IsFull (fields_of mid)) above → AllByRecursion (IsFull (fields_of file)) above
-    still_full limits [] full = tt
-    still_full limits (c ∷ above) full =
-        (omega (arith, full.0, limits.block_size, limits.key_max), still_full limits above full.1)
-
     pub grows_on : CannotGrow outer own mid → CannotGrow steps parts file
     grows_on rest root a [] child level pieces below p = absurd (not_top root a child level pieces below p)
     grows_on rest root a (b ∷ above) child level pieces below p =
@@ -175,7 +183,5 @@ module _ (file : List ℕ) (steps outer : List Step) (step : Step) (top : Bool) 
         (next root a b above child level pieces below p) in record {
           levels = omega (arith, deep.levels);
           full = All-cons (IsFull (fields_of file)) a (b ∷ above) u.full
-              (All-from_recursion (IsFull (fields_of file)) (b ∷ above)
-              (still_full u.goes.reshapes.limits (b ∷ above)
-              (recursion_from_All (IsFull (fields_of mid)) (b ∷ above) deep.full)));
+              (still_full (fields_of file) (fields_of mid) u.goes.reshapes.limits (b ∷ above) deep.full);
         }

@@ -7,3 +7,6 @@ pub mod Ending
 pub mod Told
 pub mod Divided
 pub mod OneUp
+pub mod Splicing
+pub mod NodePut
+pub mod SplicedNode

@@ -1,6 +1,7 @@
 ghost use Rattle.gds_splice.specs.PartLaws.{AllAreTaken, AncestorBecomes, AncestorMayPart, BecomesBehind};
 ghost use Rattle.gds_splice.specs.PartLaws.{BecomesInAnyOrder, BlockIsThere, GoesIntoPieces, LeafMayPart};
 ghost use Rattle.gds_splice.specs.PartLaws.{PartedHasRoom, PiecesAreThere, RaisedRootIsThere, RootIsRaised, StaysOne};
+ghost use Rattle.gds_splice.specs.Splicing.{SplicedMayPart};
 
 /// Free blocks that are taken one after another: they are distinct and busy then, and the file stays lawful.
 pub fn taken_blocks()
@@ -49,4 +50,10 @@ pub fn root_is_raised()
 pub fn tree_becomes()
     ensures behind { BecomesBehind }
     ensures order { BecomesInAnyOrder }
+{}
+
+/// An index block may get entries in the place of neighbouring children: it stays one block with them or goes into
+/// pieces. Where nothing stands behind them, the last becomes the star.
+pub fn spliced_may_part()
+    ensures { SplicedMayPart }
 {}

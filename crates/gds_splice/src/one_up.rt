@@ -3,16 +3,12 @@ ghost use Rattle.gds_base.specs.Drafting.{Drafts, IsDraftFor, OnlyDrafts, WithDr
 ghost use Rattle.gds_splice.specs.Ending.{EndsParting};
 ghost use Rattle.gds_splice.specs.OneUp.{CannotTellOne, IsAtEnd, TellsOne};
 
-use crate::dividing::divide;
-use crate::halving::Growth;
 use crate::parts::Parts;
-use crate::raising::raise_root;
+use crate::putting::put_node;
 use crate::telling::read_told;
-use crate::writing::put_entries;
 use gds_base::{Base, BaseError};
 use gds_draft::Draft;
 use gds_find::Step;
-use gds_pack::packed_size;
 use host_model::Host;
 use std::alloc::Global;
 
@@ -39,14 +35,13 @@ pub(crate) fn tell_one<H: Host>(
 {
     base.hold_draft(draft);
     let node = read_told(alloc, base, draft, step, parts)?;
-    if packed_size(&node.entries) <= u64::from(base.header().block_size) {
-        put_entries(alloc, base, draft, step.block, node.level, &node.entries)?;
-        return Ok(None);
-    }
-    let growth = Growth::at(&node.entries, step.offset, parts.parted.len() + 1);
-    if is_root {
-        raise_root(alloc, base, draft, step.block, node, growth)?;
-        return Ok(None);
-    }
-    Ok(Some(divide(alloc, base, draft, &[step.block], node, growth)?))
+    put_node(
+        alloc,
+        base,
+        draft,
+        step,
+        is_root,
+        node,
+        parts.parted.len() + 1,
+    )
 }
