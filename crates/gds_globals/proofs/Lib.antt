@@ -7,3 +7,5 @@ pub mod NewGlobalLemmas
 mod PlantingLemmas
 mod MayLemmas
 mod SettingLemmas
+mod ReadyLemmas
+mod DraftingLemmas
