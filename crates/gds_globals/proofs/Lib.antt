@@ -9,3 +9,4 @@ mod MayLemmas
 mod SettingLemmas
 mod ReadyLemmas
 mod DraftingLemmas
+mod FoundLemmas

@@ -34,7 +34,8 @@ pub fn draft_set<H: Host>(
 ) -> Result<Draft, BaseError>
     ensures draft { IfOk result (λ draft. IsDraftFor base.new.header draft) }
     ensures header { IfOk result (λ draft. IsNextHeader base.old.header draft.header) }
-    ensures faultless { IfOk result (λ draft. ForSome (image_of base.old) (λ image. IsFaultless (drafted draft image))) }
+    ensures faultless { IfOk result (λ draft. ForSome (image_of base.old) (λ image.
+        IsFaultless (drafted draft image))) }
     ensures map { IfOk result (λ draft. ForSome (image_of base.old)
         (LeadsToSet draft (place_of reference.now) value.now)) }
     ensures read { OnlyRead H.told H.moment H.failures H.left_since base.old base.new }
@@ -66,7 +67,8 @@ fn draft_with<H: Host>(
     requires unspent { base.old.header.tn < 2 ^ 63 }
     ensures draft { IfOk result (λ draft. IsDraftFor base.new.header draft) }
     ensures header { IfOk result (λ draft. IsNextHeader base.old.header draft.header) }
-    ensures faultless { IfOk result (λ draft. ForSome (image_of base.old) (λ image. IsFaultless (drafted draft image))) }
+    ensures faultless { IfOk result (λ draft. ForSome (image_of base.old) (λ image.
+        IsFaultless (drafted draft image))) }
     ensures map { IfOk result (λ draft. ForSome (image_of base.old)
         (LeadsToSet draft (place_of reference.now) value.now)) }
     ensures read { OnlyRead H.told H.moment H.failures H.left_since base.old base.new }
