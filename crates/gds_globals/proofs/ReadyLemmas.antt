@@ -1,5 +1,5 @@
 -- A draft of a SET that is made ready for a commit.
-use Rattle.std.proofs.Common.{◌≡◌, ℕ, ◌<◌, ◌^◌, List, Option, None, Some, refl, sym, ap, subst, ◌∙◌}
+use Rattle.std.proofs.Common.{◌≡◌, ℕ, ◌+◌, ◌≤◌, ◌<◌, ◌^◌, List, Option, None, Some, refl, sym, ap, subst, ◌∙◌}
 use Rattle.std.proofs.Common.{arith, ⊎_elim}
 use Rattle.std.specs.Prelude.{All}
 use Rattle.std.specs.Option.{ForSome}
@@ -16,6 +16,7 @@ use Rattle.gds_draft.proofs.HeaderLemmas.{nothing_changed}
 use Rattle.gds_file.specs.Change.{item_at}
 use Rattle.gds_file.specs.FileLaws.{IsLawful}
 use Rattle.gds_file.specs.Grow.{Grows}
+use Rattle.gds_file.specs.Room.{new_maps}
 use Rattle.gds_file.proofs.FileLemmas.{no_tree_changes}
 use Rattle.gds_file.proofs.GrowLemmas.{grow_reshapes}
 use Rattle.gds_file.proofs.StampLemmas.{stamp_keeps_trees}
@@ -97,3 +98,9 @@ pub told_after : (old mid new : Option (List ℕ)) (draft : DraftState) (p : Pla
     → TellsOn old new (IsAfterSet p value)
 told_after old mid new draft p value same leads made =
     told_after_same old new draft p value leads (subst (λ o. TellsOn o new (IsCommitted draft)) same made)
+
+-- How many blocks a draft has, that grew and was changed.
+pub few_units : (none mid last : ℕ) (a b x y : ℕ) (most : ℕ) → none ≡ 0 → mid ≤ none + (1 + new_maps a x)
+    → last ≤ mid + most → a ≡ b → y ≡ x → last ≤ (1 + most) + new_maps b y
+few_units none mid last a b x y most zero first second from to =
+    omega (arith, zero, first, second, ap (λ n. new_maps n x) from, ap (new_maps b) to)

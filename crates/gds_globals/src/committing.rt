@@ -1,5 +1,6 @@
-ghost use Rattle.std.specs.Prelude.{◌≡◌, OnErr, OnOk, length};
+ghost use Rattle.std.specs.Prelude.{◌≡◌, ◌+◌, ◌≤◌, OnErr, OnOk, length};
 ghost use Rattle.host_model.specs.Told.{TellsOn};
+ghost use Rattle.gds_file.specs.Room.{new_maps};
 ghost use Rattle.gds_globals.specs.Committing.{ReadsAndCommits};
 ghost use Rattle.gds_globals.specs.Ending.{EndsSetting};
 ghost use Rattle.gds_globals.specs.Ready.{IsAfterSet, IsHeaderAfter};
@@ -28,6 +29,8 @@ pub fn set<H: Host>(
     ensures map { OnOk result (TellsOn (image_of base.old) (image_of base.new)
         (IsAfterSet (place_of reference.now) value.now)) }
     ensures header { OnOk result (IsHeaderAfter base.old.header base.new.header) }
+    ensures changed { OnOk result
+        (base.new.changed ≤ base.old.changed + (48 + new_maps base.old.header.total base.new.header.total)) }
     ensures err { OnErr result ((image_of base.new ≡ image_of base.old) × (base.new.header ≡ base.old.header)) }
     ensures crash { ReadsAndCommits H.told H.moment H.failures H.left_since base.old base.new result }
     ensures ends { EndsSetting base.old.header (length (key_bytes (node_of reference.now))) (length value.now)

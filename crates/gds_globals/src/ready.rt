@@ -1,9 +1,10 @@
-ghost use Rattle.std.specs.Prelude.{◌≡◌, ◌^◌, ◌<◌, ◌≤◌, All, IfOk, List, OnOk, length};
+ghost use Rattle.std.specs.Prelude.{◌≡◌, ◌+◌, ◌^◌, ◌<◌, ◌≤◌, All, IfOk, List, OnOk, length};
 ghost use Rattle.std.specs.Option.{ForSome};
 ghost use Rattle.gds_base.specs.Drafting.{IsDraftFor};
 ghost use Rattle.gds_base.specs.Ending.{EndsReading};
 ghost use Rattle.gds_base.specs.Faultless.{IsFaultless};
 ghost use Rattle.gds_draft.specs.Drafted.{drafted};
+ghost use Rattle.gds_file.specs.Room.{new_maps};
 ghost use Rattle.gds_globals.specs.Ending.{EndsDrafting};
 ghost use Rattle.gds_globals.specs.Ready.{IsNextHeader, LeadsToSet};
 ghost use Rattle.gds_units.specs.Reading.{OnlyRead};
@@ -34,6 +35,8 @@ pub fn draft_set<H: Host>(
 ) -> Result<Draft, BaseError>
     ensures draft { IfOk result (λ draft. IsDraftFor base.new.header draft) }
     ensures header { IfOk result (λ draft. IsNextHeader base.old.header draft.header) }
+    ensures few { IfOk result (λ draft.
+        length draft.units ≤ 47 + new_maps base.old.header.total draft.header.total) }
     ensures faultless { IfOk result (λ draft. ForSome (image_of base.old) (λ image.
         IsFaultless (drafted draft image))) }
     ensures map { IfOk result (λ draft. ForSome (image_of base.old)
@@ -67,6 +70,8 @@ fn draft_with<H: Host>(
     requires unspent { base.old.header.tn < 2 ^ 63 }
     ensures draft { IfOk result (λ draft. IsDraftFor base.new.header draft) }
     ensures header { IfOk result (λ draft. IsNextHeader base.old.header draft.header) }
+    ensures few { IfOk result (λ draft.
+        length draft.units ≤ 47 + new_maps base.old.header.total draft.header.total) }
     ensures faultless { IfOk result (λ draft. ForSome (image_of base.old) (λ image.
         IsFaultless (drafted draft image))) }
     ensures map { IfOk result (λ draft. ForSome (image_of base.old)

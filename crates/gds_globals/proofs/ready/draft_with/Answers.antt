@@ -10,7 +10,7 @@ use Rattle.m_key.specs.Key.{key_bytes}
 use Rattle.m_key.specs.Reference.{node_of, place_of}
 use Rattle.gds_globals.proofs.AskLemmas.{empty_of}
 use Rattle.gds_globals.proofs.DraftingLemmas.{has_room, parting_exit, reading_exit, reserving_exit}
-use Rattle.gds_globals.proofs.ReadyLemmas.{faultless_then, leads_then}
+use Rattle.gds_globals.proofs.ReadyLemmas.{faultless_then, few_units, leads_then}
 use Rattle.gds_globals.proofs.ready.draft_with.Goals as goal
 
 pub returns-in_err-reserve32-clause-ends : goal.returns-in_err-reserve32-clause-ends
@@ -112,3 +112,10 @@ returns-clause-read g c =
     then c.args.base.now c.hold_bytes.new.base c.set_in_draft.new.base
     (then c.args.base.now c.reserve32.new.self c.hold_bytes.new.base c.reserve32.ensures.drafts.read
     c.hold_bytes.ensures.read) c.set_in_draft.ensures.drafts.read
+
+pub returns-clause-few : goal.returns-clause-few
+returns-clause-few g c =
+    let none = ap length c.draft-draft.ensures.none in
+    let from = ap (λ (x : Header). x.total) c.draft-draft.ensures.header in
+    let to = ap (λ (x : Header). x.total) c.set_in_draft.ensures.drafts.header in
+    few_units _ _ _ _ _ _ _ _ none c.reserve32.ensures.drafts.more c.set_in_draft.ensures.drafts.more from to
