@@ -7,3 +7,6 @@ pub mod NewGlobalLemmas
 mod PlantingLemmas
 mod MayLemmas
 mod SettingLemmas
+mod ReadyLemmas
+mod DraftingLemmas
+mod FoundLemmas

@@ -2,3 +2,5 @@ pub mod Node
 pub mod Ending
 pub mod SetLaws
 pub mod Planting
+pub mod Ready
+pub mod Committing

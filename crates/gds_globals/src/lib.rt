@@ -2,10 +2,14 @@
 #![tactic(auto)]
 
 mod asking;
+mod committing;
 mod laws;
 mod planting;
+mod ready;
 mod setting;
 
 pub use asking::get;
-pub use laws::item_of_global;
+pub use committing::set;
+pub use laws::{finds_through, item_of_global};
+pub use ready::draft_set;
 pub use setting::set_in_draft;

@@ -2,6 +2,7 @@ ghost use Rattle.std.specs.Prelude.{◌≡◌, ◌≤◌, List, OnOk, None, leng
 ghost use Rattle.gds_base.specs.Drafting.{Drafts, IsDraftFor, OnlyDrafts, WithDraft};
 ghost use Rattle.gds_file.specs.Change.{item_at};
 ghost use Rattle.gds_sound.specs.Sound.{IsSound, Tree};
+ghost use Rattle.gds_splice.specs.Ending.{EndsParting};
 ghost use Rattle.m_key.specs.Key.{key_bytes};
 ghost use Rattle.m_key.specs.Reference.{node_of};
 ghost use Rattle.gds_globals.specs.Node.{IsRootOf, name_key};
@@ -33,6 +34,7 @@ pub fn set_in_draft<H: Host>(
     ensures set { OnOk result (Drafts base.old draft.old draft.new (λ before after. (d : Tree) (globals : List Tree)
         → IsSound before d globals → IsSoundWith after globals (item_at (node_of reference.now) value.now))) }
     ensures drafts { OnlyDrafts H.told H.moment H.failures H.left_since base.old base.new draft.old draft.new 46 }
+    ensures ends { EndsParting (H.failures base.old.host) (H.failures base.new.host) (Unit {0}) (Unit {0}) result }
 {
     base.hold_draft(draft);
     let _limits = draft.header();
@@ -59,6 +61,7 @@ fn set_in_new<H: Host>(
         → IsSound before d globals → IsRootOf d.items (name_key (node_of reference.now).name) None
         → IsSoundWith after globals (item_at (node_of reference.now) value.now))) }
     ensures drafts { OnlyDrafts H.told H.moment H.failures H.left_since base.old base.new draft.old draft.new 46 }
+    ensures ends { EndsParting (H.failures base.old.host) (H.failures base.new.host) (Unit {0}) (Unit {0}) result }
 {
     base.hold_draft(draft);
     let _limits = draft.header();

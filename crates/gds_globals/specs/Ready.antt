@@ -1,0 +1,39 @@
+-- Drafts of a SET that are ready for a commit.
+use Rattle.std.specs.Prelude.{◌≡◌, ℕ, ◌+◌, ◌<◌, All, List, if◌then◌else◌, nat_lt}
+use Rattle.gds_header.specs.declared.header.Header.{Header}
+use Rattle.gds_file.specs.Room.{extended}
+use Rattle.gds_draft.specs.Committed.{IsCommitted}
+use Rattle.gds_draft.specs.Draft.{DraftState}
+use Rattle.gds_sound.specs.Stands.{StandsFor}
+use Rattle.m_key.specs.Globals.{Globals, Place, after, set_value}
+
+-- The header with which a change goes on: where fewer than 32 blocks were free, the total is that of the file grown by
+-- the extension. Of the rest only the free count and the master map are others.
+abbrev pub IsNextHeader : Header → Header → Type 0
+IsNextHeader old new =
+    new ≡ record old {
+      total = if nat_lt old.free 32 then extended old else old.total;
+      free = new.free;
+      master = new.master;
+    }
+
+-- The header after the commit: its transaction number is one more, too.
+abbrev pub IsHeaderAfter : Header → Header → Type 0
+IsHeaderAfter old new =
+    new ≡ record old {
+      total = if nat_lt old.free 32 then extended old else old.total;
+      free = new.free;
+      master = new.master;
+      tn = old.tn + 1;
+    }
+
+-- The file stands for the map after a SET, for each that the image stood for. That it is bytes is known of any that a
+-- host tells (`UnitSource::length`).
+abbrev pub IsAfterSet : Place → List ℕ → List ℕ → List ℕ → Type 0
+IsAfterSet p value image file =
+    All (λ b. b < 256) file → (m : Globals) → StandsFor image m → StandsFor file (after m (set_value p value))
+
+-- What a commit of the draft makes of the image does.
+abbrev pub LeadsToSet : DraftState → Place → List ℕ → List ℕ → Type 0
+LeadsToSet draft p value image =
+    (file : List ℕ) → IsCommitted draft image file → IsAfterSet p value image file
