@@ -29,8 +29,8 @@ const TWO_NODES: [u8; 33] = [
     0xBF, 0x11, 0, 0, 0x79,
 ];
 
-/// The head of a root that the third commit wrote, with entries for `^A(2)` and `^A(3)` and a star, and the first record
-/// but for its pointer.
+/// The head of a root that the third commit wrote, which has entries for `^A(2)` and `^A(3)` and a star, and the first
+/// record but for its pointer.
 const THREE_LEAVES: [u8; 26] = [
     1, 0, 0, 1, 49, 0, 0, 0, 3, 0, 0, 0, 0, 0, 0, 0, 14, 0, 0, 0, 0x41, 0, 0xBF, 0x21, 0, 0,
 ];
