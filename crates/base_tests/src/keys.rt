@@ -69,18 +69,31 @@ fn key_with(alloc: Global, texts: &[&[u8]]) -> Result<Key, Trouble> {
 }
 
 fn key(name: &[u8], subscripts: Vec<Subscript>) -> Result<Key, Trouble> {
-    if subscripts.len() > 31 {
-        return Err(Trouble::Key);
-    }
-    let reference = Reference {
-        name: name_of(name).ok_or(Trouble::Key)?,
-        subscripts: Subscripts::new(subscripts),
-    };
     let mut key = Key::new();
-    match key_of(&reference, &mut key) {
+    match key_of(&reference(name, subscripts)?, &mut key) {
         Ok(()) => Ok(key),
         Err(_) => Err(Trouble::Key),
     }
+}
+
+/// The reference with a name and some subscripts.
+fn reference(name: &[u8], subscripts: Vec<Subscript>) -> Result<Reference, Trouble> {
+    if subscripts.len() > 31 {
+        return Err(Trouble::Key);
+    }
+    Ok(Reference {
+        name: name_of(name).ok_or(Trouble::Key)?,
+        subscripts: Subscripts::new(subscripts),
+    })
+}
+
+/// The reference with a name and one subscript, or none where its text is empty.
+pub(crate) fn node(alloc: Global, name: &[u8], text: &[u8]) -> Result<Reference, Trouble> {
+    let mut subscripts = Vec::new(alloc);
+    if !text.is_empty() {
+        subscripts.push(subscript_of(alloc, text)?)?;
+    }
+    reference(name, subscripts)
 }
 
 /// So many letters, which depend on a number.

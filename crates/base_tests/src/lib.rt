@@ -6,6 +6,8 @@ mod blind;
 #[cfg(test)]
 mod checks;
 #[cfg(test)]
+mod globals;
+#[cfg(test)]
 mod keys;
 #[cfg(test)]
 mod numbers;
