@@ -28,6 +28,15 @@ struct Series {
 /// since the tree was too deep.
 type Ending = (u8, u32, u32);
 
+/// No deeper than it should be, and nothing refused.
+const DONE: (bool, bool, bool) = (true, false, false);
+
+/// Some changes refused, since the file was full.
+const SPENT: (bool, bool, bool) = (true, true, false);
+
+/// Some refused, since the tree was too deep.
+const DEEP: (bool, bool, bool) = (true, false, true);
+
 /// Blocks of 512 bytes.
 const SMALL: Header = Header {
     block_size: 512,
@@ -209,17 +218,17 @@ fn run(alloc: Global, series: &Series) -> Result<Ending, Trouble> {
 
 #[test]
 fn trees_have_the_nodes_that_were_set(rt: HostRuntime) -> Result<(), Fail> {
-    for (label, keys, count, bound, header, ends) in [
-        ("mixed", Mixed, 2000, 2000, SMALL, (2, 0, 0)),
-        ("rising", Rising, 2000, 1, SHORT, (2, 0, 0)),
-        ("falling", Falling, 2000, 1, SHORT, (2, 0, 0)),
-        ("pairs", Pairs, 2000, 2000, SMALL, (2, 0, 0)),
-        ("alike", Alike(50), 2000, 2000, SMALL, (2, 0, 0)),
-        ("long", Long(59), 2000, 2000, SMALL, (4, 0, 0)),
-        ("longest", Long(152), 2000, 9999, LONG, (7, 0, 45)),
-        ("large", Long(200), 200, 100, LARGE, (1, 0, 0)),
-        ("full", Long(59), 2000, 4000, FULL, (4, 851, 0)),
-        ("names", Names(31), 400, 4000, SMALL, (2, 0, 0)),
+    for (label, keys, count, bound, header, most, ends) in [
+        ("mixed", Mixed, 2000, 2000, SMALL, 3, DONE),
+        ("rising", Rising, 2000, 1, SHORT, 3, DONE),
+        ("falling", Falling, 2000, 1, SHORT, 3, DONE),
+        ("pairs", Pairs, 2000, 2000, SMALL, 3, DONE),
+        ("alike", Alike(50), 2000, 2000, SMALL, 6, DONE),
+        ("long", Long(59), 2000, 2000, SMALL, 6, DONE),
+        ("longest", Long(152), 2000, 9999, LONG, 7, DEEP),
+        ("large", Long(200), 200, 100, LARGE, 3, DONE),
+        ("full", Long(59), 2000, 4000, FULL, 6, SPENT),
+        ("names", Names(31), 400, 4000, SMALL, 6, DONE),
     ] {
         let series = Series {
             keys,
@@ -227,7 +236,8 @@ fn trees_have_the_nodes_that_were_set(rt: HostRuntime) -> Result<(), Fail> {
             bound,
             header,
         };
-        assert_eq!(rt; run(rt.alloc(), &series)?, ends, "{label}");
+        let (level, full, too_deep) = run(rt.alloc(), &series)?;
+        assert_eq!(rt; (level <= most, full > 0, too_deep > 0), ends, "{label}");
     }
     Ok(())
 }
