@@ -71,3 +71,9 @@ pub record EndsRun {H T : Type 0} (told : H → Option Contents) (counts : H →
   pub too_long : TellsOn left rest (λ text untaken. IsAboveLimit text untaken → result ≡ Err InputTooLong)
   pub input : TellsOn left rest IsEnd
   pub fails_more : failed ≤ fails
+
+-- A database that can't be opened for what is wrong with its files.
+abbrev pub IsRefusal : RunError → Type 0
+IsRefusal (BadImages at) = Unit {0}
+IsRefusal (Unsound faults) = Unit {0}
+IsRefusal other = ⊥

@@ -1,8 +1,9 @@
-ghost use Rattle.std.specs.Prelude.{◌≡◌, [], ℕ, List, false, OnErr, OnOk, Some};
+ghost use Rattle.std.specs.Prelude.{◌≡◌, [], ℕ, IfErr, List, false, OnErr, OnOk, Some};
 ghost use Rattle.std.specs.Option.{ForSome};
 ghost use Rattle.host_model.specs.Told.{TellsOn};
 ghost use Rattle.gds_script.specs.Script.{script_of};
-ghost use Rattle.gds_run.specs.Ending.{EndsRun};
+ghost use Rattle.gds_recovery.specs.Found.{FindsSame};
+ghost use Rattle.gds_run.specs.Ending.{EndsRun, IsRefusal};
 ghost use Rattle.gds_run.specs.Progress.{Ends, Origin, Progress};
 ghost use Rattle.gds_run.specs.Run.{Breaks, IsRun, LeavesPrefixes};
 
@@ -32,6 +33,8 @@ pub fn run<H: Host, I: Source>(alloc: Global, host: H, input: I) -> Ran<H, I>
         TellsOn (H.told host) (H.told result.host) (IsRun text))) }
     ensures broken { OnErr result.result (ForSome (I.left input) (λ text.
         TellsOn (H.told host) (H.told result.host) (Breaks text))) }
+    ensures refused { IfErr result.result (λ error. IsRefusal error
+        → TellsOn (H.told host) (H.told result.host) FindsSame) }
     ensures crash { ForSome (I.left input) (λ text. ForSome (H.told host) (λ c.
         LeavesPrefixes H.moment H.left_since text c host result.host)) }
 
