@@ -1,6 +1,6 @@
 -- What the lines of a script make of a database, and what each is answered.
 use Rattle.std.specs.Prelude.{◌≡◌, ◌⊎◌, ℕ, ◌+◌, ◌^◌, ◌≤◌, List, [], ◌∷◌, ◌++◌, length, map, codes, if◌then◌else◌}
-use Rattle.std.specs.Prelude.{nat_le, nat_lt, MatchOption, Option, None, Some}
+use Rattle.std.specs.Prelude.{nat_le, nat_lt, MatchBool, MatchOption, Option, None, Some}
 use Rattle.std.specs.FinMap.{get}
 use Rattle.std.specs.Str.Lines.{lines}
 use Rattle.m_key.specs.Globals.{Globals, Place, after, set_value}
@@ -13,7 +13,7 @@ use Rattle.gds_shape.specs.Depth.{IsDeep}
 use Rattle.gds_sound.specs.Stands.{StandsFor}
 use Rattle.gds_lines.specs.Lines.{given}
 use Rattle.gds_words.specs.Script.{Asks, Request, epoch}
-use Rattle.gds_words.specs.Script.Request as asked
+use Rattle.gds_words.specs.Script as asked
 use Rattle.gds_globals.specs.Ready.{IsHeaderAfter}
 use Rattle.gds_script.specs.declared.answer.Answer.{Answer}
 use Rattle.gds_script.specs.declared.answer.Answer.TheVariants.{BadLine, Done, Epoch, Full, KeyTooLong, TnSpent, TooDeep}
@@ -74,8 +74,9 @@ Answers (asked.set node value) old answer new =
     MatchOption (refusal (fields_of old.image) (length (key_bytes node)) (length value))
     (AnswersSet node value old answer new) (λ first. (answer ≡ first) × (new ≡ old))
 Answers (asked.get node) old answer new =
-    (if nat_lt (fields_of old.image).key_max (length (key_bytes node))
-    then answer ≡ KeyTooLong (length (key_bytes node)) else Tells node old.map answer) × (new ≡ old)
+    MatchBool (nat_lt (fields_of old.image).key_max (length (key_bytes node)))
+    (answer ≡ KeyTooLong (length (key_bytes node))) (Tells node old.map answer)
+    × (new ≡ old)
 Answers asked.epoch old answer new = (answer ≡ Epoch old.changes) × (new ≡ old)
 
 -- what a line does: it asks for something, or is outside the grammar

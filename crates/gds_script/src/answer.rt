@@ -1,5 +1,6 @@
-ghost use Rattle.std.specs.Prelude.{◌≡◌, ◌++◌, OnErr, OnOk, length, take};
+ghost use Rattle.std.specs.Prelude.{◌≡◌, ◌++◌, OnErr, OnOk, codes, length, take};
 ghost use Rattle.std.specs.Fmt.{decimal};
+ghost use Rattle.m_text.specs.Written.{value_text};
 ghost use Rattle.gds_script.specs.Answer.{answer_line, answer_text};
 
 use m_text::print_value;
@@ -90,7 +91,7 @@ fn push_number(
 }
 
 fn push_value(value: &[u8], out: &mut Vec<u8>) -> Result<(), AllocError>
-    ensures ok { OnOk result (out.new.items ≡ out.old.items ++ answer_text (Answer.Value (record { items = value.now }))) }
+    ensures ok { OnOk result (out.new.items ≡ out.old.items ++ (codes "VALUE " ++ value_text value.now)) }
     ensures err { OnErr result (take (length out.old.items) out.new.items ≡ out.old.items) }
 {
     out.extend_from_slice(b"VALUE ")?;
