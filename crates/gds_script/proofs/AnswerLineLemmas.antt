@@ -1,9 +1,9 @@
 -- The lines of answers one behind another, and fronts of them.
-use Rattle.std.proofs.Common.{◌≡◌, ℕ, zero, suc, ◌+◌, List, [], ◌∷◌, ◌++◌, length, take, refl, sym, ap, ◌∙◌, arith}
+use Rattle.std.proofs.Common.{◌≡◌, ℕ, suc, ◌+◌, List, [], ◌∷◌, ◌++◌, length, take, refl, sym, ap, ◌∙◌, arith, length-append}
 use Rattle.std.proofs.lemmas.List.{append-nil, append_assoc}
 use Rattle.std.proofs.lemmas.List.Concat.{flat_map-append}
 use Rattle.gds_script.specs.declared.answer.Answer.{Answer}
-use Rattle.gds_script.specs.Answer.{answer_line, answer_lines}
+use Rattle.gds_script.specs.Answer.{answer_line, answer_lines, answer_text}
 
 pub answer_lines-append : (answers more : List Answer)
     → answer_lines (answers ++ more) ≡ answer_lines answers ++ answer_lines more
@@ -15,6 +15,17 @@ answer_lines_more answers answer =
     answer_lines-append answers (answer ∷ [])
     ∙ ap (λ bytes. answer_lines answers ++ bytes) (append-nil (answer_line answer))
 
+pub answer_lines_none : (answers : List Answer) → answer_lines answers ≡ [] → answers ≡ []
+answer_lines_none [] none = refl
+answer_lines_none (answer ∷ answers) none =
+    let len : length (answer_line answer ++ answer_lines answers) ≡ 0 = ap length none in
+    absurd (omega (
+      arith,
+      len,
+      length-append (answer_line answer) (answer_lines answers),
+      length-append (answer_text answer) (10 ∷ []),
+    ))
+
 front_past : (xs ys : List ℕ) (n : ℕ) → take (length xs + n) (xs ++ ys) ≡ xs ++ take n ys
 front_past [] ys n = ap (λ k. take k ys) (omega arith)
 front_past (x ∷ xs) ys n =
@@ -25,8 +36,9 @@ front_past (x ∷ xs) ys n =
 pub said_front : (before : List ℕ) (told waiting : List Answer) (n : ℕ)
     → (k : ℕ)
     × ((before ++ answer_lines told) ++ take n (answer_lines waiting) ≡ before ++ take k (answer_lines (told ++ waiting)))
-said_front before told waiting n =
-    (length (answer_lines told) + n,
-    append_assoc before (answer_lines told) (take n (answer_lines waiting))
-    ∙ ap (λ bytes. before ++ bytes) (sym (front_past (answer_lines told) (answer_lines waiting) n))
-    ∙ ap (λ bytes. before ++ take (length (answer_lines told) + n) bytes) (sym (answer_lines-append told waiting)))
+said_front before told waiting n = (
+  length (answer_lines told) + n,
+  append_assoc before (answer_lines told) (take n (answer_lines waiting))
+      ∙ ap (λ bytes. before ++ bytes) (sym (front_past (answer_lines told) (answer_lines waiting) n))
+      ∙ ap (λ bytes. before ++ take (length (answer_lines told) + n) bytes) (sym (answer_lines-append told waiting)),
+)

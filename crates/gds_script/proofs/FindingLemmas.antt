@@ -1,5 +1,5 @@
 -- Which of some maps the next opening finds, through calls that keep or store an image.
-use Rattle.std.proofs.Common.{◌≡◌, ◌⊎◌, ℕ, ◌≤◌, List, ◌++◌, take, refl, sym, ap, subst, ◌∙◌, inl, inr, ⊎_elim}
+use Rattle.std.proofs.Common.{◌≡◌, ◌⊎◌, ℕ, ◌≤◌, List, ◌++◌, take, refl, sym, ap, subst, ⊎_elim}
 use Rattle.host_model.specs.Disk.{SaysSome, during}
 use Rattle.host_model.specs.Files.{Contents}
 use Rattle.host_model.specs.Moments.{EachLeft, LeavesOnly}
@@ -64,9 +64,11 @@ pub one_found_saying : (P : Globals → Type 0) (text bytes : List ℕ) (before 
     → FindsSaying P text bytes c
 one_found_saying P text bytes before c each is =
     let found = one_found_again P text before is.0 each is.1 in
-    let n : ℕ = is.2.0 in
-    (n, found_as P found.map (text ++ take n bytes) c found.has
-    (subst (λ x. Finds found.map (text ++ take n bytes) x) (sym is.2.1) (said_more found.map text bytes is.0 n found.finds)))
+    let n : ℕ = is.2.0 in (
+      n,
+      found_as P found.map (text ++ take n bytes) c found.has
+          (subst (λ x. Finds found.map (text ++ take n bytes) x) (sym is.2.1) (said_more found.map text bytes is.0 n found.finds)),
+    )
 
 module _ {H : Type 0} (moment : H → ℕ) (left_since : H → ℕ → Contents → Type 0) (old new : H) where
   pub one_still : (P : Globals → Type 0) (text : List ℕ) → EachLeft moment left_since old (FindsOne P text)

@@ -1,5 +1,5 @@
 -- Which changes are kept, once more was answered.
-use Rattle.std.proofs.Common.{◌≡◌, ◌⊎◌, ℕ, ◌+◌, ◌≤◌, List, [], ◌∷◌, ◌++◌, Contains, length, take, refl, sym, ap, subst}
+use Rattle.std.proofs.Common.{◌≡◌, ℕ, ◌≤◌, List, [], ◌∷◌, ◌++◌, Contains, length, take, refl, sym, ap, subst}
 use Rattle.std.proofs.Common.{◌∙◌, arith, ⊎_elim, length-append}
 use Rattle.std.proofs.lemmas.List.{append-nil, append_assoc, take-append-le, take_all}
 use Rattle.std.proofs.lemmas.List.Elements.{Contains-push_cases}
@@ -89,6 +89,7 @@ kept_epoch m told changes found durable is =
   where
     same_len : length (changes ++ []) ≡ length changes
     same_len = ap length (append-nil changes)
+
     number_of : {n : ℕ} → Epoch (length changes) ≡ Epoch n → length changes ≡ n
     number_of e = cc
 

@@ -1,11 +1,14 @@
 -- The changes that answers tell of: one line more, lines joined and parted, and what was said of them.
-use Rattle.std.proofs.Common.{◌≡◌, ℕ, List, [], ◌∷◌, ◌++◌, map, Option, None, Some, refl, sym, ap, subst, ◌∙◌}
-use Rattle.std.proofs.lemmas.List.{append-nil, append_assoc}
+use Rattle.std.proofs.Common.{◌≡◌, ℕ, ◌+◌, List, [], ◌∷◌, ◌++◌, length, map, Option, None, Some, refl, sym, ap, subst}
+use Rattle.std.proofs.Common.{◌∙◌, arith}
+use Rattle.std.proofs.lemmas.List.{append-nil}
 use Rattle.m_key.specs.Globals.{Change, Globals, after, after_all}
 use Rattle.gds_script.specs.declared.answer.Answer.{Answer}
 use Rattle.gds_script.specs.Answer.{answer_text}
-use Rattle.gds_script.specs.Made.{AreMade}
+use Rattle.gds_script.specs.Made.{AreMade, AreTold}
 use Rattle.gds_script.specs.Said.{Accepts, AreAccepted, with_change}
+use Rattle.gds_script.specs.Script.{Runs, State}
+use Rattle.gds_script.proofs.StepLemmas.{OneRequest, step_made}
 
 -- ---- changes
 
@@ -33,10 +36,14 @@ pub are_made_more : (lines : List (List ℕ)) (answers : List Answer) (changes :
     → AreMade (lines ++ line ∷ []) (answers ++ answer ∷ []) (changed changes change)
 are_made_more [] [] changes line answer change made accepts =
     (change, [], ap (λ xs. xs ++ with_change change []) made, accepts, refl)
-are_made_more (first ∷ lines) (reply ∷ answers) changes line answer change made accepts =
-    (made.0, changed made.1 change, ap (λ xs. changed xs change) made.2
-    ∙ with_change-append made.0 made.1 (with_change change []), made.3,
-    are_made_more lines answers made.1 line answer change made.4 accepts)
+are_made_more (first ∷ lines) (reply ∷ answers) changes line answer change made accepts = (
+  made.0,
+  changed made.1 change,
+  ap (λ xs. changed xs change) made.2
+      ∙ with_change-append made.0 made.1 (with_change change []),
+  made.3,
+  are_made_more lines answers made.1 line answer change made.4 accepts,
+)
 are_made_more [] (reply ∷ answers) changes line answer change made accepts = absurd made
 are_made_more (first ∷ lines) [] changes line answer change made accepts = absurd made
 
@@ -55,9 +62,13 @@ pub are_made_joined : (lines more : List (List ℕ)) (answers replies : List Ans
     → AreMade (lines ++ more) (answers ++ replies) (changes ++ others)
 are_made_joined [] more [] replies changes others made rest =
     subst (λ xs. AreMade more replies (xs ++ others)) (sym made) rest
-are_made_joined (line ∷ lines) more (answer ∷ answers) replies changes others made rest =
-    (made.0, made.1 ++ others, ap (λ xs. xs ++ others) made.2 ∙ with_change-append made.0 made.1 others, made.3,
-    are_made_joined lines more answers replies made.1 others made.4 rest)
+are_made_joined (line ∷ lines) more (answer ∷ answers) replies changes others made rest = (
+  made.0,
+  made.1 ++ others,
+  ap (λ xs. xs ++ others) made.2 ∙ with_change-append made.0 made.1 others,
+  made.3,
+  are_made_joined lines more answers replies made.1 others made.4 rest,
+)
 are_made_joined [] more (answer ∷ answers) replies changes others made rest = absurd made
 are_made_joined (line ∷ lines) more [] replies changes others made rest = absurd made
 
@@ -112,3 +123,36 @@ made_are_accepted (line ∷ lines) rest (answer ∷ answers) changes made =
     (made.0, made.1, made.2, made.3, made_are_accepted lines rest answers made.1 made.4)
 made_are_accepted [] rest (answer ∷ answers) changes made = absurd made
 made_are_accepted (line ∷ lines) rest [] changes made = absurd made
+
+-- ---- a run
+
+change_first : (change : Option Change) (m : Globals) (rest : List Change)
+    → after_all (after_all m (with_change change [])) rest ≡ after_all m (with_change change rest)
+change_first None m rest = refl
+change_first (Some change) m rest = refl
+
+length-with_change : (change : Option Change) (rest : List Change)
+    → length (with_change change rest) ≡ length (with_change change []) + length rest
+length-with_change None rest = omega arith
+length-with_change (Some change) rest = omega arith
+
+pub run_told : OneRequest → (old new : State) (lines : List (List ℕ)) (answers : List Answer)
+    → Runs old lines answers new → AreTold old new lines answers
+run_told one old new [] [] run = record {
+  changes = [];
+  made = refl;
+  map_is = ap (λ s. s.map) run;
+  changes_are = omega (arith, ap (λ s. s.changes) run);
+}
+run_told one old new (line ∷ lines) (answer ∷ answers) run =
+    let step = step_made one line answer old run.0 run.1 in
+    let rest = run_told one run.0 new lines answers run.2 in
+    record {
+      changes = with_change step.change rest.changes;
+      made = (step.change, rest.changes, refl, step.accepts, rest.made);
+      map_is = rest.map_is ∙ ap (λ m. after_all m rest.changes) step.map_is
+          ∙ change_first step.change old.map rest.changes;
+      changes_are = omega (arith, rest.changes_are, step.changes_are, length-with_change step.change rest.changes);
+    }
+run_told one old new [] (answer ∷ answers) run = absurd run
+run_told one old new (line ∷ lines) [] run = absurd run

@@ -1,10 +1,9 @@
 -- Lines that are answered one after another: one more, and how many changes the answers may tell.
-use Rattle.std.proofs.Common.{◌≡◌, ◌⊎◌, ℕ, ◌+◌, ◌≤◌, Bool, true, false, List, [], ◌∷◌, ◌++◌, length, Contains, Option, None}
+use Rattle.std.proofs.Common.{◌≡◌, ℕ, ◌≤◌, Bool, true, false, List, [], ◌∷◌, ◌++◌, length, Contains, Option, None}
 use Rattle.std.proofs.Common.{zero, suc, ◌<◌, get_or, Some, MatchBool, MatchOption, refl, sym, ap, subst, ◌∙◌, arith, inl, inr, ⊎_elim, ltb}
 use Rattle.std.specs.FinMap.{get}
 use Rattle.std.proofs.lemmas.Bool.{false≢true}
 use Rattle.std.proofs.lemmas.List.Elements.{Contains-append_cases}
-use Rattle.m_key.specs.Globals.{Place}
 use Rattle.m_key.specs.Key.{key_bytes}
 use Rattle.m_key.specs.Node.{Node}
 use Rattle.gds_header.specs.Fields.{fields_of}
@@ -13,7 +12,7 @@ use Rattle.gds_words.specs.Script as asked
 use Rattle.gds_script.specs.declared.answer.Answer.{Answer}
 use Rattle.gds_script.specs.declared.answer.Answer.TheVariants.{BadLine, Done, Epoch, Full, KeyTooLong, TnSpent, TooDeep}
 use Rattle.gds_script.specs.declared.answer.Answer.TheVariants.{Undefined, Value, ValueTooLong}
-use Rattle.gds_script.specs.Script.{Answers, AnswersSet, Runs, State, Steps, Tells, TellsValue, refusal}
+use Rattle.gds_script.specs.Script.{Answers, AnswersSet, Runs, State, Steps, Tells, TellsValue, refusal, told_len}
 use Rattle.gds_script.proofs.StepLemmas.{OneRequest, refusal_refuses, refuses, step_made}
 
 -- one line more
@@ -97,7 +96,7 @@ few_if_asked (asked.set node value) old new answer is =
     (refusal (fields_of old.image) (length (key_bytes node)) (length value))
     (refusal_refuses (fields_of old.image) (length (key_bytes node)) (length value)) is
 few_if_asked (asked.get node) old new answer is =
-    few_if_got node old answer new.changes (length (key_bytes node))
+    few_if_got node old answer new.changes (told_len (length (key_bytes node)))
     (ltb (fields_of old.image).key_max (length (key_bytes node))) is.0
 few_if_asked epoch old new answer is = few_if_epoch answer old new is.0 is.1
 

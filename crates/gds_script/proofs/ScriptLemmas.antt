@@ -1,6 +1,5 @@
 -- The lines of a script, taken off its text one after another.
-use Rattle.std.proofs.Common.{◌≡◌, ℕ, ◌<◌, List, [], ◌∷◌, ◌++◌, map, codes, Option, None, Some, refl, sym, ap, ◌∙◌, arith}
-use Rattle.std.specs.Str.Lines.{lines}
+use Rattle.std.proofs.Common.{◌≡◌, ℕ, List, [], ◌∷◌, ◌++◌, map, codes, None, Some, refl, ap, ◌∙◌, arith}
 use Rattle.gds_lines.proofs.LineLemmas.{lines-first}
 use Rattle.gds_lines.specs.Lines.{after_first_line, first_line, given, next_line}
 use Rattle.gds_words.specs.Script.{Asks, epoch}

@@ -1,11 +1,9 @@
 -- What a line makes of the changes: one more where a SET was made, and else none.
-use Rattle.std.proofs.Common.{◌≡◌, ◌⊎◌, ℕ, ◌+◌, ◌≤◌, Bool, true, false, cond, ltb, leb, List, [], ◌∷◌, ◌++◌, length, map}
-use Rattle.std.proofs.Common.{codes, Option, None, Some, MatchBool, MatchOption, refl, sym, ap, subst, ◌∙◌, arith, inl, inr}
-use Rattle.std.proofs.Common.{⊎_elim, ◌^◌}
-use Rattle.std.specs.FinMap.{get}
+use Rattle.std.proofs.Common.{◌≡◌, ℕ, ◌+◌, Bool, true, false, cond, List, [], length}
+use Rattle.std.proofs.Common.{codes, Option, None, Some, MatchOption, refl, sym, ap, subst, ◌∙◌, arith, inl, inr}
 use Rattle.std.proofs.lemmas.Bool.{false≢true}
 use Rattle.m_text.specs.Front.{leads}
-use Rattle.m_key.specs.Globals.{Change, Globals, Place, after, after_all, kill, set_value}
+use Rattle.m_key.specs.Globals.{Change, Place, after_all, kill, set_value}
 use Rattle.m_key.specs.Key.{key_bytes}
 use Rattle.m_key.specs.Node.{Node}
 use Rattle.gds_header.specs.Fields.{fields_of}
@@ -17,7 +15,7 @@ use Rattle.gds_script.specs.declared.answer.Answer.TheVariants.{BadLine, Done, E
 use Rattle.gds_script.specs.declared.answer.Answer.TheVariants.{Undefined, Value, ValueTooLong}
 use Rattle.gds_script.specs.Answer.{answer_text}
 use Rattle.gds_script.specs.Said.{Accepts, AsksFor, with_change}
-use Rattle.gds_script.specs.Script.{Answers, AnswersSet, Sets, State, Steps, Tells, TellsValue, refusal}
+use Rattle.gds_script.specs.Script.{Answers, AnswersSet, State, Steps, refusal, told_len}
 
 -- what the law `one_request` says
 abbrev pub OneRequest : Type 0
@@ -104,7 +102,7 @@ refusal_by false false false false key value free first e = absurd (cc)
 
 pub refusal_refuses : (h : Header) (key value : ℕ) (first : Answer) → refusal h key value ≡ Some first
     → refuses first ≡ true
-refusal_refuses h key value first e = refusal_by _ _ _ _ key value h.free first e
+refusal_refuses h key value first e = refusal_by _ _ _ _ (told_len key) value h.free first e
 
 -- ---- one step
 

@@ -1,6 +1,6 @@
 -- The texts of answers: none has byte 10, and one that begins as an EPOCH's is that of this number.
 use Rattle.std.proofs.Common.{◌≡◌, ℕ, zero, suc, ◌+◌, ◌*◌, ◌/◌, ◌%◌, ◌^◌, ◌<◌, ◌≤◌, Bool, true, false, cond, eqb, ltb}
-use Rattle.std.proofs.Common.{List, [], ◌∷◌, ◌++◌, length, map, flat_map, drop, codes, refl, sym, ap, subst, ◌∙◌, arith}
+use Rattle.std.proofs.Common.{List, [], ◌∷◌, ◌++◌, length, map, flat_map, drop, codes, refl, sym, ap, ◌∙◌, arith}
 use Rattle.std.proofs.Common.{⊎_elim, pow-suc}
 use Rattle.std.proofs.lemmas.Bool.{false≢true, ne_eqb, cases_lt}
 use Rattle.std.proofs.lemmas.Fmt.{decimal_is_IsNumeral, decimal_is_IsNumeral_wide, length-decimal-le}
@@ -8,7 +8,7 @@ use Rattle.std.specs.Fmt.{decimal, digit_glyph, digits, digits_onto}
 use Rattle.std.specs.Str.Parse.{digits_value}
 use Rattle.m_text.specs.Front.{leads}
 use Rattle.m_text.specs.Grammar.{Piece, Word, c, char, coded, doubled, joined, piece_text, quoted, word_text, zch, zchar}
-use Rattle.m_text.specs.Written.{is_printable, led_by, pieces_of, run_of, runs_of, runs_text, value_text}
+use Rattle.m_text.specs.Written.{is_printable, led_by, pieces_of, run_of, runs_of, value_text}
 use Rattle.m_text.specs.Written.{decimal as code_digits}
 use Rattle.gds_script.specs.declared.answer.Answer.{Answer}
 use Rattle.gds_script.specs.declared.answer.Answer.TheVariants.{BadLine, Done, Epoch, Full, KeyTooLong, TnSpent, TooDeep}
@@ -70,8 +70,7 @@ decimal_one_line n = digits_one_line 64 n [] tt
 code_one_line : (b : ℕ) → IsOneLine (code_digits b)
 code_one_line b =
     one_of_two (ltb b 10) _ _ (above_end (48 + b) (omega arith), tt)
-    (one_of_two (ltb b 100) _ _ (above_end (48 + b / 10) (omega arith), (above_end (48 + b % 10) (omega arith), tt))
-    (
+    (one_of_two (ltb b 100) _ _ (above_end (48 + b / 10) (omega arith), (above_end (48 + b % 10) (omega arith), tt)) (
       above_end (48 + b / 100) (omega arith),
       (above_end (48 + b / 10 % 10) (omega arith), (above_end (48 + b % 10) (omega arith), tt)),
     ))

@@ -1,5 +1,5 @@
 -- Of the lines of answers, cut off anywhere, the whole ones are those of some first answers.
-use Rattle.std.proofs.Common.{◌≡◌, ℕ, zero, suc, Bool, true, false, cond, eqb, List, [], ◌∷◌, ◌++◌, take, map, refl, sym}
+use Rattle.std.proofs.Common.{◌≡◌, ℕ, zero, suc, cond, List, [], ◌∷◌, ◌++◌, take, map, refl, sym}
 use Rattle.std.proofs.Common.{ap, ◌∙◌}
 use Rattle.std.proofs.lemmas.List.{append-nil, append_assoc, map-append, take-map}
 use Rattle.gds_script.specs.declared.answer.Answer.{Answer}
@@ -27,15 +27,19 @@ cut_line : (front text behind : List ℕ) (more : List (List ℕ)) → IsOneLine
     → (n : ℕ) → AreFirst (whole_lines_behind front (take n (text ++ 10 ∷ behind))) ((front ++ text) ∷ more)
 cut_line front text behind more h rest zero = (zero, refl)
 cut_line front [] behind more h rest (suc n) =
-    let some = rest n in
-    (suc some.0, ap (λ line. line ∷ whole_lines_behind [] (take n behind)) (sym (append-nil front))
-    ∙ ap (λ lines. (front ++ []) ∷ lines) some.1)
+    let some = rest n in (
+      suc some.0,
+      ap (λ line. line ∷ whole_lines_behind [] (take n behind)) (sym (append-nil front))
+          ∙ ap (λ lines. (front ++ []) ∷ lines) some.1,
+    )
 cut_line front (b ∷ text) behind more h rest (suc n) =
-    let some = cut_line (front ++ b ∷ []) text behind more h.1 rest n in
-    (some.0, ap (λ t. cond t (front ∷ whole_lines_behind [] (take n (text ++ 10 ∷ behind)))
-    (whole_lines_behind (front ++ b ∷ []) (take n (text ++ 10 ∷ behind)))) h.0
-    ∙ some.1
-    ∙ ap (λ line. take some.0 (line ∷ more)) (append_assoc front (b ∷ []) text))
+    let some = cut_line (front ++ b ∷ []) text behind more h.1 rest n in (
+      some.0,
+      ap (λ t. cond t (front ∷ whole_lines_behind [] (take n (text ++ 10 ∷ behind)))
+          (whole_lines_behind (front ++ b ∷ []) (take n (text ++ 10 ∷ behind)))) h.0
+          ∙ some.1
+          ∙ ap (λ line. take some.0 (line ∷ more)) (append_assoc front (b ∷ []) text),
+    )
 
 -- a line of an answer and what stands behind it
 line_apart : (answer : Answer) (behind : List ℕ)
@@ -67,7 +71,9 @@ lines_cut (answer ∷ answers) n =
 pub whole_lines_are : (told waiting : List Answer) (n : ℕ)
     → (j : ℕ) × (whole_lines (answer_lines told ++ take n (answer_lines waiting)) ≡ map answer_text (told ++ take j waiting))
 whole_lines_are told waiting n =
-    let some = lines_cut waiting n in
-    (some.0, lines_first told (take n (answer_lines waiting))
-    ∙ ap (λ lines. map answer_text told ++ lines) (some.1 ∙ take-map answer_text some.0 waiting)
-    ∙ sym (map-append answer_text told (take some.0 waiting)))
+    let some = lines_cut waiting n in (
+      some.0,
+      lines_first told (take n (answer_lines waiting))
+          ∙ ap (λ lines. map answer_text told ++ lines) (some.1 ∙ take-map answer_text some.0 waiting)
+          ∙ sym (map-append answer_text told (take some.0 waiting)),
+    )

@@ -32,11 +32,7 @@ pub enum Answer {
 }
 
 /// Appends the line of an answer. Where memory runs out, `out` is as before.
-pub fn write_answer(
-    alloc: Global,
-    answer: &Answer,
-    out: &mut Vec<u8>,
-) -> Result<(), AllocError>
+pub fn write_answer(alloc: Global, answer: &Answer, out: &mut Vec<u8>) -> Result<(), AllocError>
     ensures ok { OnOk result (out.new.items ≡ out.old.items ++ answer_line answer.now) }
     ensures err { OnErr result (out.new.items ≡ out.old.items) }
 {
@@ -76,12 +72,7 @@ fn push_text(alloc: Global, answer: &Answer, out: &mut Vec<u8>) -> Result<(), Al
 }
 
 /// Appends a word and a number.
-fn push_number(
-    alloc: Global,
-    word: &[u8],
-    n: u64,
-    out: &mut Vec<u8>,
-) -> Result<(), AllocError>
+fn push_number(alloc: Global, word: &[u8], n: u64, out: &mut Vec<u8>) -> Result<(), AllocError>
     ensures ok { OnOk result (out.new.items ≡ out.old.items ++ (word.now ++ decimal n)) }
     ensures err { OnErr result (take (length out.old.items) out.new.items ≡ out.old.items) }
 {
