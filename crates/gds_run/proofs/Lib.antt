@@ -1,0 +1,7 @@
+pub mod Hypotheses
+pub mod EpochLemmas
+pub mod EndingLemmas
+pub mod FoundLemmas
+pub mod SettledLemmas
+pub mod SayingLemmas
+pub mod AnsweredLemmas
