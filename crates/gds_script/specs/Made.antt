@@ -1,10 +1,11 @@
 -- The changes that answers tell of, and which of them the next opening finds.
-use Rattle.std.specs.Prelude.{◌≡◌, ℕ, ◌≤◌, List, [], ◌∷◌, Contains, take, Option}
+use Rattle.std.specs.Prelude.{◌≡◌, ℕ, ◌+◌, ◌≤◌, List, [], ◌∷◌, Contains, length, take, Option}
 use Rattle.m_key.specs.Globals.{Change, Globals, after_all}
 use Rattle.gds_script.specs.declared.answer.Answer.{Answer}
 use Rattle.gds_script.specs.declared.answer.Answer.TheVariants.{Epoch}
 use Rattle.gds_script.specs.Answer.{answer_text}
 use Rattle.gds_script.specs.Said.{Accepts, with_change}
+use Rattle.gds_script.specs.Script.{State}
 
 -- These lines have these answers, and these are the changes that were answered OK.
 abbrev pub AreMade : List (List ℕ) → List Answer → List Change → Type 0
@@ -21,3 +22,10 @@ pub record IsKept (m : Globals) (answers : List Answer) (changes : List Change) 
   pub durable : (n : ℕ) → Contains answers (Epoch n) → n ≤ kept
   pub few : kept ≤ most
   pub is : found ≡ after_all m (take kept changes)
+
+-- These changes lead from one state to another, and the answers tell of them.
+pub record AreTold (old new : State) (lines : List (List ℕ)) (answers : List Answer) : Type 0 where
+  pub changes : List Change
+  pub made : AreMade lines answers changes
+  pub map_is : new.map ≡ after_all old.map changes
+  pub changes_are : new.changes ≡ old.changes + length changes

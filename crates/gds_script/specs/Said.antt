@@ -1,12 +1,12 @@
 -- What the bytes that were said tell of the changes: which were answered, and which are durable.
-use Rattle.std.specs.Prelude.{◌≡◌, ℕ, ◌+◌, ◌==◌, ◌≤◌, List, [], ◌∷◌, ◌++◌, Contains, codes, length, take, if◌then◌else◌}
+use Rattle.std.specs.Prelude.{◌≡◌, ℕ, ◌==◌, ◌≤◌, List, [], ◌∷◌, ◌++◌, Contains, codes, length, take, if◌then◌else◌}
 use Rattle.std.specs.Prelude.{Option, None, Some}
 use Rattle.std.specs.Fmt.{decimal}
 use Rattle.host_model.specs.Files.{Contents}
-use Rattle.m_key.specs.Globals.{Change, Globals, Place, after_all, kill, set_value}
+use Rattle.m_key.specs.Globals.{Change, Globals, after_all, kill, set_value}
 use Rattle.gds_base.specs.Finds.{Finds}
 use Rattle.gds_words.specs.Script.{Asks}
-use Rattle.gds_words.specs.Script.Request as asked
+use Rattle.gds_words.specs.Script as asked
 
 -- The lines that byte 10 ends, without it, where these bytes of the first line were read. What stands behind the last
 -- byte 10 is no whole line.

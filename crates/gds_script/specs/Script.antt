@@ -1,6 +1,6 @@
 -- What the lines of a script make of a database, and what each is answered.
-use Rattle.std.specs.Prelude.{◌≡◌, ◌⊎◌, ℕ, ◌+◌, ◌^◌, ◌≤◌, List, [], ◌∷◌, ◌++◌, length, map, codes, if◌then◌else◌}
-use Rattle.std.specs.Prelude.{nat_le, nat_lt, MatchOption, Option, None, Some}
+use Rattle.std.specs.Prelude.{◌≡◌, ◌⊎◌, ℕ, ◌+◌, ◌-◌, ◌^◌, ◌≤◌, List, [], ◌∷◌, ◌++◌, length, map, codes, if◌then◌else◌}
+use Rattle.std.specs.Prelude.{min, nat_le, nat_lt, MatchBool, MatchOption, Option, None, Some}
 use Rattle.std.specs.FinMap.{get}
 use Rattle.std.specs.Str.Lines.{lines}
 use Rattle.m_key.specs.Globals.{Globals, Place, after, set_value}
@@ -13,7 +13,7 @@ use Rattle.gds_shape.specs.Depth.{IsDeep}
 use Rattle.gds_sound.specs.Stands.{StandsFor}
 use Rattle.gds_lines.specs.Lines.{given}
 use Rattle.gds_words.specs.Script.{Asks, Request, epoch}
-use Rattle.gds_words.specs.Script.Request as asked
+use Rattle.gds_words.specs.Script as asked
 use Rattle.gds_globals.specs.Ready.{IsHeaderAfter}
 use Rattle.gds_script.specs.declared.answer.Answer.{Answer}
 use Rattle.gds_script.specs.declared.answer.Answer.TheVariants.{BadLine, Done, Epoch, Full, KeyTooLong, TnSpent, TooDeep}
@@ -29,11 +29,15 @@ pub record State : Type 0 where
 abbrev pub start_of : List ℕ → Globals → State
 start_of image m = record { image = image; map = m; changes = 0 }
 
+-- A length as a number of 64 bits tells it, which a longer one fills.
+abbrev pub told_len : ℕ → ℕ
+told_len n = min n (2 ^ 64 - 1)
+
 -- Why a database with this header refuses a SET with a key and a value of these lengths: the first of these that
 -- applies.
 abbrev pub refusal : Header → ℕ → ℕ → Option Answer
 refusal h key value =
-    if nat_lt h.key_max key then Some (KeyTooLong key)
+    if nat_lt h.key_max key then Some (KeyTooLong (told_len key))
     else (if nat_lt h.value_max value then Some (ValueTooLong value)
     else (if nat_le (2 ^ 63) h.tn then Some TnSpent
     else (if nat_lt (room_of h) 32 then Some (Full h.free)
@@ -74,8 +78,9 @@ Answers (asked.set node value) old answer new =
     MatchOption (refusal (fields_of old.image) (length (key_bytes node)) (length value))
     (AnswersSet node value old answer new) (λ first. (answer ≡ first) × (new ≡ old))
 Answers (asked.get node) old answer new =
-    (if nat_lt (fields_of old.image).key_max (length (key_bytes node))
-    then answer ≡ KeyTooLong (length (key_bytes node)) else Tells node old.map answer) × (new ≡ old)
+    MatchBool (nat_lt (fields_of old.image).key_max (length (key_bytes node)))
+    (answer ≡ KeyTooLong (told_len (length (key_bytes node)))) (Tells node old.map answer)
+    × (new ≡ old)
 Answers asked.epoch old answer new = (answer ≡ Epoch old.changes) × (new ≡ old)
 
 -- what a line does: it asks for something, or is outside the grammar

@@ -1,5 +1,6 @@
-ghost use Rattle.std.specs.Prelude.{◌≡◌, ◌++◌, OnErr, OnOk, length, take};
+ghost use Rattle.std.specs.Prelude.{◌≡◌, ◌++◌, OnErr, OnOk, codes, length, take};
 ghost use Rattle.std.specs.Fmt.{decimal};
+ghost use Rattle.m_text.specs.Written.{value_text};
 ghost use Rattle.gds_script.specs.Answer.{answer_line, answer_text};
 
 use m_text::print_value;
@@ -31,11 +32,7 @@ pub enum Answer {
 }
 
 /// Appends the line of an answer. Where memory runs out, `out` is as before.
-pub fn write_answer(
-    alloc: Global,
-    answer: &Answer,
-    out: &mut Vec<u8>,
-) -> Result<(), AllocError>
+pub fn write_answer(alloc: Global, answer: &Answer, out: &mut Vec<u8>) -> Result<(), AllocError>
     ensures ok { OnOk result (out.new.items ≡ out.old.items ++ answer_line answer.now) }
     ensures err { OnErr result (out.new.items ≡ out.old.items) }
 {
@@ -75,12 +72,7 @@ fn push_text(alloc: Global, answer: &Answer, out: &mut Vec<u8>) -> Result<(), Al
 }
 
 /// Appends a word and a number.
-fn push_number(
-    alloc: Global,
-    word: &[u8],
-    n: u64,
-    out: &mut Vec<u8>,
-) -> Result<(), AllocError>
+fn push_number(alloc: Global, word: &[u8], n: u64, out: &mut Vec<u8>) -> Result<(), AllocError>
     ensures ok { OnOk result (out.new.items ≡ out.old.items ++ (word.now ++ decimal n)) }
     ensures err { OnErr result (take (length out.old.items) out.new.items ≡ out.old.items) }
 {
@@ -90,7 +82,7 @@ fn push_number(
 }
 
 fn push_value(value: &[u8], out: &mut Vec<u8>) -> Result<(), AllocError>
-    ensures ok { OnOk result (out.new.items ≡ out.old.items ++ answer_text (Answer.Value (record { items = value.now }))) }
+    ensures ok { OnOk result (out.new.items ≡ out.old.items ++ (codes "VALUE " ++ value_text value.now)) }
     ensures err { OnErr result (take (length out.old.items) out.new.items ≡ out.old.items) }
 {
     out.extend_from_slice(b"VALUE ")?;

@@ -3,5 +3,7 @@
 #![tactic(auto)]
 
 mod answer;
+mod laws;
 
 pub use answer::{Answer, write_answer};
+pub use laws::told_changes;
