@@ -1,5 +1,5 @@
 -- One more line is answered.
-use Rattle.std.proofs.Common.{◌≡◌, ◌⊎◌, ℕ, ◌+◌, ◌≤◌, Bool, true, false, List, [], ◌∷◌, ◌++◌, length, take, Contains}
+use Rattle.std.proofs.Common.{◌≡◌, ◌⊎◌, ℕ, ◌+◌, ◌^◌, ◌<◌, ◌≤◌, Bool, true, false, List, [], ◌∷◌, ◌++◌, length, take, Contains}
 use Rattle.std.proofs.Common.{Option, None, Some, MatchOption, arith, refl, sym, ap, subst, ◌∙◌, inl, inr, ⊎_elim}
 use Rattle.std.proofs.Common.{append-nil, append_assoc, take_at, length-append}
 use Rattle.std.proofs.lemmas.Grind.{flat_map-append, take-append-le}
@@ -28,16 +28,19 @@ use Rattle.gds_script.specs.Said.{Accepts, IsAfterPrefix, with_change}
 use Rattle.gds_script.specs.Script.{Answers, AnswersSet, Runs, Sets, State, Steps, refusal, start_of}
 use Rattle.gds_run.specs.Progress.{Origin, Progress}
 use Rattle.gds_run.specs.Setting.{IsSetOrRefused, IsStateOf}
-use Rattle.gds_run.proofs.EpochLemmas.{IsNoEpoch}
-use Rattle.gds_run.proofs.FoundLemmas.{each_now, one_stored, one_weaker}
+use Rattle.gds_script.proofs.FindingLemmas.{found_wider, one_found_stored}
+use Rattle.gds_script.proofs.KeptLemmas.{IsNoEpoch}
+use Rattle.gds_script.proofs.MadeLemmas.{after_all-append, are_made_more}
+use Rattle.gds_script.proofs.RunLemmas.{runs_more}
+use Rattle.gds_script.proofs.StepLemmas.{OneRequest, step_made}
+use Rattle.gds_run.proofs.FoundLemmas.{each_now}
 use Rattle.gds_run.proofs.SettledLemmas.{Settled, durable, each_on, only_on}
-use Rattle.gds_run.proofs.Hypotheses.{OneRequest, after_all-append, made_then, runs_more, step_made}
 
 epoch_count : (a b : ℕ) → Epoch a ≡ Epoch b → a ≡ b
 epoch_count a b is = cc
 
-no_epoch : (answer : Answer) (n : ℕ) → IsNoEpoch answer → answer ≡ Epoch n → ⊥
-no_epoch answer n no is = subst IsNoEpoch is no
+done_no_epoch : (n : ℕ) → Done ≡ Epoch n → ⊥
+done_no_epoch n is = absurd (cc)
 
 -- Nothing was changed where the count stays.
 no_change : (change : Option Change) (n : ℕ) → n ≡ n + length (with_change change []) → change ≡ None
@@ -76,7 +79,7 @@ module _ {H : Type 0} (tells : H → Option Contents) (moment : H → ℕ) (left
           waiting_made = subst (AreMade (p.done.waiting_lines ++ line ∷ []) (p.done.waiting ++ answer ∷ []))
               (ap (λ change. p.done.waiting_changes ++ with_change change []) none
               ∙ append-nil p.done.waiting_changes)
-              (made_then p.done.waiting_lines p.done.waiting p.done.waiting_changes line answer makes.change
+              (are_made_more p.done.waiting_lines p.done.waiting p.done.waiting_changes line answer makes.change
               p.waiting_made makes.accepts);
           map_is = p.map_is;
           count_is = p.count_is;
@@ -89,7 +92,7 @@ module _ {H : Type 0} (tells : H → Option Contents) (moment : H → ℕ) (left
               ∙ ap (λ bytes. answer_lines p.done.waiting ++ bytes) (sym (append-nil (answer_line answer)))
               ∙ sym (flat_map-append answer_line p.done.waiting (answer ∷ []));
           changes_are = p.changes_are;
-          each = λ c left. one_weaker
+          each = λ c left. found_wider
               (IsKept o.map (p.done.told ++ p.done.waiting) (p.done.told_changes ++ p.done.waiting_changes)
               (length p.done.told_changes))
               (IsKept o.map (p.done.told ++ (p.done.waiting ++ answer ∷ []))
@@ -97,7 +100,7 @@ module _ {H : Type 0} (tells : H → Option Contents) (moment : H → ℕ) (left
               (o.said ++ answer_lines p.done.told) c
               (λ m kept. record {
                 kept = kept.kept;
-                durable = λ n has. ⊎_elim (kept.durable n) (λ is. absurd (no_epoch answer n no is))
+                durable = λ n has. ⊎_elim (kept.durable n) (λ is. absurd (no n is))
                     (Contains-push_cases (p.done.told ++ p.done.waiting) answer (Epoch n)
                     (subst (λ all. Contains all (Epoch n)) (sym more) has));
                 few = kept.few;
@@ -109,7 +112,7 @@ module _ {H : Type 0} (tells : H → Option Contents) (moment : H → ℕ) (left
   -- ---- A line that is answered where all answers were said.
 
   module _ (base : UnitsState H) (changes : ℕ)
-      (s : Settled tells moment left_since o (line ∷ rest) base changes)
+      (s : Settled tells moment left_since o (line ∷ rest) base changes) (small : changes < 2 ^ 64)
       (now_left : (host : H) (c : Contents) → tells host ≡ Some c → left_since host (moment host) c)
       (longer : (host : H) (t u : ℕ) (c : Contents) → t ≤ u → left_since host u c → left_since host t c)
       (new : UnitsState H)
@@ -139,7 +142,7 @@ module _ {H : Type 0} (tells : H → Option Contents) (moment : H → ℕ) (left
           state = after;
           runs = runs_more (start_of o.image o.map) s.state after s.lines s.answers line answer s.runs step;
           told_made = s.are_made;
-          waiting_made = made_then [] [] [] line answer makes.change refl makes.accepts;
+          waiting_made = are_made_more [] [] [] line answer makes.change refl makes.accepts;
           map_is = makes.map_is ∙ ap (λ m. after_all m more) s.map_is ∙ sym (after_all-append o.map s.made more);
           count_is = makes.changes_are ∙ ap (λ n. n + length more) s.count_is ∙ sym (length-append s.made more);
           contents = at.0;
@@ -150,7 +153,7 @@ module _ {H : Type 0} (tells : H → Option Contents) (moment : H → ℕ) (left
           waiting_is = sym (append-nil (answer_line answer));
           changes_are = refl;
           each = each more;
-          only = only_on tells moment left_since o now_left (line ∷ rest) base changes s longer new any_moment;
+          only = only_on tells moment left_since o now_left (line ∷ rest) base changes s small longer new any_moment;
         }
 
     -- what may be kept with one answer more, which is no epoch's
@@ -159,7 +162,7 @@ module _ {H : Type 0} (tells : H → Option Contents) (moment : H → ℕ) (left
         → IsKept o.map (s.answers ++ answer ∷ []) (s.made ++ more) (length s.made) m
     one_more answer no more m kept = record {
       kept = kept.kept;
-      durable = λ n has. ⊎_elim (kept.durable n) (λ is. absurd (no_epoch answer n no is))
+      durable = λ n has. ⊎_elim (kept.durable n) (λ is. absurd (no n is))
           (Contains-push_cases s.answers answer (Epoch n) has);
       few = kept.few;
       is = kept.is ∙ ap (after_all o.map) (sym (take-append-le kept.kept s.made more kept.few));
@@ -178,10 +181,10 @@ module _ {H : Type 0} (tells : H → Option Contents) (moment : H → ℕ) (left
         let count : made.1.changes ≡ changes + 1 = made.2.changes_are ∙ ap (λ n. n + 1) (sym s.changes_are) in
         subst (Progress tells moment left_since o rest new (answer_line Done)) count
         (first_waits Done made.1 (inl (asked.set node value, asks, answers)) made.3
-        (λ more c left. one_weaker (IsKept o.map s.answers s.made (length s.made))
+        (λ more c left. found_wider (IsKept o.map s.answers s.made (length s.made))
         (IsKept o.map (s.answers ++ Done ∷ []) (s.made ++ more) (length s.made)) (o.said ++ answer_lines s.answers) c
-        (one_more Done tt more)
-        (each_on tells moment left_since o now_left (line ∷ rest) base changes s longer new any_moment c left)))
+        (one_more Done (λ n is. done_no_epoch n is) more)
+        (each_on tells moment left_since o now_left (line ∷ rest) base changes s small longer new any_moment c left)))
 
     -- An epoch.
     pub epoch_waits : Asks line asked.epoch → image_of new ≡ image_of base
@@ -193,12 +196,13 @@ module _ {H : Type 0} (tells : H → Option Contents) (moment : H → ℕ) (left
         let count = s.changes_are ∙ s.count_is in
         subst (Progress tells moment left_since o rest new (answer_line (Epoch changes))) (sym s.changes_are)
         (first_waits (Epoch changes) s.state (inl (asked.epoch, asks, (told, refl))) state
-        (λ more c left. one_stored (IsKept o.map (s.answers ++ Epoch changes ∷ []) (s.made ++ more) (length s.made))
-        s.state.image (o.said ++ answer_lines s.answers) s.state.map c s.stands
+        (λ more c left. one_found_stored
+        (IsKept o.map (s.answers ++ Epoch changes ∷ []) (s.made ++ more) (length s.made))
+        s.state.map s.state.image (o.said ++ answer_lines s.answers) c s.stands
         (record {
           kept = length s.made;
           durable = λ n has. ⊎_elim
-              (durable tells moment left_since o now_left (line ∷ rest) base changes s n)
+              (durable tells moment left_since o now_left (line ∷ rest) base changes s small n)
               (λ is. let same_count : changes ≡ n = epoch_count changes n is in omega (arith, same_count, count))
               (Contains-push_cases s.answers (Epoch changes) (Epoch n) has);
           few = omega arith;

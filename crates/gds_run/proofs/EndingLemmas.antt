@@ -2,23 +2,11 @@
 use Rattle.std.proofs.Common.{◌≡◌, false, IfErr, OnOk, Option, None, Result, Ok, Err, ap, ◌∙◌}
 use Rattle.host_model.specs.Failures.{Failures, NeverFell}
 use Rattle.host_model.specs.Files.{Contents}
-use Rattle.host_model.proofs.FailureLemmas.{NeverFell-refl, NeverFell-trans, then-Rose}
+use Rattle.host_model.proofs.FailureLemmas.{NeverFell-refl, NeverFell-trans}
 use Rattle.gds_units.specs.State.{UnitsState}
 use Rattle.gds_run.specs.Ending.{EndsAnswering, HasDeviceCause}
 use Rattle.gds_run.specs.declared.error.RunError.{RunError}
-use Rattle.gds_run.specs.declared.error.RunError.TheVariants.{BadImages, Changed, InputFault, InputTooLong, Memory}
-use Rattle.gds_run.specs.declared.error.RunError.TheVariants.{ReadFault, SayFault, Unsound, WriteFault}
-
-module _ (changed later : Type 0) (so : later → changed) (before between now : Failures)
-    (rose : NeverFell before between) where
-  pub cause_then : (error : RunError) → HasDeviceCause later between now error
-      → HasDeviceCause changed before now error
-  cause_then Memory is = tt
-  cause_then ReadFault is = then-Rose before.read between.read now.read rose.read is
-  cause_then WriteFault is = then-Rose before.write between.write now.write rose.write is
-  cause_then SayFault is = then-Rose before.say between.say now.say rose.say is
-  cause_then (Changed unit) is = so is
-  cause_then other is = absurd is
+use Rattle.gds_run.proofs.EndsLemmas.{device_cause}
 
 err_weaker : {T : Type 0} (result : Result T RunError) (P Q : RunError → Type 0) → ((error : RunError) → P error → Q error)
     → IfErr result P → IfErr result Q
@@ -37,6 +25,6 @@ module _ {H T U : Type 0} (told : H → Option Contents) (counts : H → Failure
     going = two.going;
     cause = err_weaker result (HasDeviceCause (told mid.host ≡ None) (counts mid.host) (counts new.host))
         (HasDeviceCause (told old.host ≡ None) (counts old.host) (counts new.host))
-        (cause_then (told old.host ≡ None) (told mid.host ≡ None) one.tells (counts old.host) (counts mid.host)
-        (counts new.host) one.failures) two.cause;
+        (λ error. device_cause (told mid.host ≡ None) (told old.host ≡ None) (counts old.host) (counts mid.host)
+        (counts new.host) (counts new.host) error one.failures (NeverFell-refl (counts new.host)) one.tells) two.cause;
   }

@@ -1,5 +1,5 @@
 -- Answers that wait are said.
-use Rattle.std.proofs.Common.{◌≡◌, ℕ, ◌+◌, ◌≤◌, List, [], ◌∷◌, ◌++◌, length, take, Option, Some, Result, Ok, Err}
+use Rattle.std.proofs.Common.{◌≡◌, ℕ, ◌+◌, ◌^◌, ◌<◌, ◌≤◌, List, [], ◌∷◌, ◌++◌, length, take, Option, Some, Result, Ok, Err}
 use Rattle.std.proofs.Common.{arith, refl, sym, ap, subst, ◌∙◌, append-nil, append_assoc, flat_map, length-append}
 use Rattle.std.proofs.lemmas.Grind.{flat_map-append}
 use Rattle.std.proofs.Math.Seq.{take-append-add}
@@ -17,14 +17,16 @@ use Rattle.gds_script.specs.Finding.{FindsOne}
 use Rattle.gds_script.specs.Made.{AreMade, IsKept}
 use Rattle.gds_script.specs.Said.{IsAfterPrefix}
 use Rattle.gds_run.specs.Progress.{Answered, IsCutShort, Origin, Progress}
-use Rattle.gds_run.proofs.FoundLemmas.{each_now, one_saying, one_text, one_weaker}
+use Rattle.gds_script.proofs.FindingLemmas.{FindsSaying, found_wider, one_still_saying}
+use Rattle.gds_script.proofs.MadeLemmas.{are_made_joined}
+use Rattle.gds_script.proofs.PrefixLemmas.{after_prefix}
+use Rattle.gds_run.proofs.FoundLemmas.{each_now, one_text}
 use Rattle.gds_run.proofs.SettledLemmas.{Settled}
-use Rattle.gds_run.proofs.Hypotheses.{made_both, prefix_found}
 
 module _ {H : Type 0} (tells : H → Option Contents) (moment : H → ℕ) (left_since : H → ℕ → Contents → Type 0)
     (longer : (host : H) (t u : ℕ) (c : Contents) → t ≤ u → left_since host u c → left_since host t c)
     (o : Origin H) (rest : List (List ℕ)) (base : UnitsState H) (waits : List ℕ) (changes : ℕ)
-    (p : Progress tells moment left_since o rest base waits changes) where
+    (p : Progress tells moment left_since o rest base waits changes) (small : changes < 2 ^ 64) where
   -- all lines that were answered, their answers, and the changes that were made
   abbrev lines : List (List ℕ)
   lines = p.done.told_lines ++ p.done.waiting_lines
@@ -59,24 +61,23 @@ module _ {H : Type 0} (tells : H → Option Contents) (moment : H → ℕ) (left
   }
 
   -- Some bytes of what waits were said.
-  said_prefix : (c : Contents) → (n : ℕ) × FindsOne MayBeKept (text ++ take n waits) c
+  said_prefix : (c : Contents) → FindsSaying MayBeKept text waits c
       → IsAfterPrefix o.script o.map o.said c
   said_prefix c one =
-      prefix_found p.done.told_lines p.done.waiting_lines rest o.script p.done.told p.done.waiting
-      p.done.told_changes p.done.waiting_changes o.map o.said one.0 c p.told_made p.waiting_made p.script_is
-      (subst (λ bytes. FindsOne MayBeKept bytes c)
-      (ap (λ bytes. text ++ take one.0 bytes) p.waiting_is
-      ∙ append_assoc o.said (answer_lines p.done.told) (take one.0 (answer_lines p.done.waiting))) one.1)
+      after_prefix o.map o.said o.script p.done.told_lines p.done.waiting_lines rest p.done.told p.done.waiting
+      p.done.told_changes p.done.waiting_changes p.script_is p.told_made p.waiting_made
+      (omega (arith, small, p.changes_are, p.count_is, length-append p.done.told_changes p.done.waiting_changes))
+      one.0 c (subst (λ bytes. FindsOne MayBeKept (text ++ take one.0 bytes) c) p.waiting_is one.1)
 
   module _ (new : H) (saying_it : KeepsSaying moment left_since waits base.host new) where
     on_the_way : LeavesOnly moment left_since base.host new
-        (λ c. (n : ℕ) × FindsOne MayBeKept (text ++ take n waits) c)
-    on_the_way = one_saying moment left_since longer base.host new MayBeKept text p.each waits saying_it
+        (FindsSaying MayBeKept text waits)
+    on_the_way = one_still_saying moment left_since base.host new MayBeKept text waits p.each saying_it
 
     pub only_saying : LeavesOnly moment left_since o.host new (IsAfterPrefix o.script o.map o.said)
     only_saying =
         then_more moment left_since o.host base.host new (IsAfterPrefix o.script o.map o.said) p.only
-        (weaker moment left_since base.host new (λ c. (n : ℕ) × FindsOne MayBeKept (text ++ take n waits) c)
+        (weaker moment left_since base.host new (FindsSaying MayBeKept text waits)
         (IsAfterPrefix o.script o.map o.said) said_prefix on_the_way)
 
     -- Some of the first bytes were said.
@@ -108,9 +109,9 @@ module _ {H : Type 0} (tells : H → Option Contents) (moment : H → ℕ) (left
         (o.said ++ answer_lines answers))
     each_saying said is stays c left =
         let one = each_now moment left_since longer base.host new
-        (λ d. (n : ℕ) × FindsOne MayBeKept (text ++ take n waits) d) on_the_way c left in
+        (FindsSaying MayBeKept text waits) on_the_way c left in
         one_text (IsKept o.map answers made (length made)) (text ++ take one.0 waits) (o.said ++ answer_lines answers) c
-        (one_weaker MayBeKept (IsKept o.map answers made (length made)) (text ++ take one.0 waits) c now_kept one.1)
+        (found_wider MayBeKept (IsKept o.map answers made (length made)) (text ++ take one.0 waits) c now_kept one.1)
         (stays c left ∙ ap (λ (d : Contents). d.said) is ∙ ap (λ bytes. bytes ++ waits) p.said_is ∙ whole_text)
 
   -- All was said.
@@ -126,7 +127,7 @@ module _ {H : Type 0} (tells : H → Option Contents) (moment : H → ℕ) (left
     script_is = p.script_is;
     state = p.state;
     runs = p.runs;
-    are_made = made_both p.done.told_lines p.done.waiting_lines p.done.told p.done.waiting p.done.told_changes
+    are_made = are_made_joined p.done.told_lines p.done.waiting_lines p.done.told p.done.waiting p.done.told_changes
         p.done.waiting_changes p.told_made p.waiting_made;
     map_is = p.map_is;
     count_is = p.count_is;
@@ -151,7 +152,7 @@ module _ {H : Type 0} (tells : H → Option Contents) (moment : H → ℕ) (left
         script_is = p.script_is;
         state = p.state;
         runs = p.runs;
-        are_made = made_both p.done.told_lines p.done.waiting_lines p.done.told p.done.waiting p.done.told_changes
+        are_made = are_made_joined p.done.told_lines p.done.waiting_lines p.done.told p.done.waiting p.done.told_changes
             p.done.waiting_changes p.told_made p.waiting_made;
         map_is = p.map_is;
         count_is = p.count_is;
@@ -163,7 +164,7 @@ module _ {H : Type 0} (tells : H → Option Contents) (moment : H → ℕ) (left
         changes_are = p.changes_are;
         each = λ c left. let one = p.each c left in
             one_text (IsKept o.map answers made (length made)) text (o.said ++ answer_lines answers) c
-            (one_weaker MayBeKept (IsKept o.map answers made (length made)) text c now_kept one)
+            (found_wider MayBeKept (IsKept o.map answers made (length made)) text c now_kept one)
             (one.finds.said ∙ all);
         only = p.only;
       }

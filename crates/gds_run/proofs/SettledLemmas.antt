@@ -1,5 +1,5 @@
 -- Lines that were answered, where all answers were said.
-use Rattle.std.proofs.Common.{◌≡◌, ◌⊎◌, ℕ, ◌≤◌, List, [], ◌∷◌, ◌++◌, length, take, Contains, Option, None, Some, arith}
+use Rattle.std.proofs.Common.{◌≡◌, ◌⊎◌, ℕ, ◌^◌, ◌<◌, ◌≤◌, List, [], ◌∷◌, ◌++◌, length, take, Contains, Option, None, Some, arith}
 use Rattle.std.proofs.Common.{refl, sym, ap, subst, ◌∙◌, append-nil, append_assoc, take_all}
 use Rattle.host_model.specs.Files.{Contents}
 use Rattle.host_model.specs.Moments.{EachLeft, LeavesOnly}
@@ -18,8 +18,9 @@ use Rattle.gds_script.specs.Made.{AreMade, IsKept}
 use Rattle.gds_script.specs.Said.{IsAfterPrefix}
 use Rattle.gds_script.specs.Script.{Runs, State, start_of}
 use Rattle.gds_run.specs.Progress.{Origin, Progress}
-use Rattle.gds_run.proofs.FoundLemmas.{each_now, one_through}
-use Rattle.gds_run.proofs.Hypotheses.{prefix_found}
+use Rattle.gds_script.proofs.FindingLemmas.{one_kept_or_stored}
+use Rattle.gds_script.proofs.PrefixLemmas.{after_prefix_now}
+use Rattle.gds_run.proofs.FoundLemmas.{each_now}
 
 module _ {H : Type 0} (tells : H → Option Contents) (moment : H → ℕ) (left_since : H → ℕ → Contents → Type 0)
     (o : Origin H) where
@@ -85,22 +86,21 @@ module _ {H : Type 0} (tells : H → Option Contents) (moment : H → ℕ) (left
 
   -- What finds one of the maps that may be kept is after a prefix.
   pub settled_prefix : (rest : List (List ℕ)) (base : UnitsState H) (changes : ℕ) (s : Settled rest base changes)
-      (c : Contents) → FindsOne (IsKept o.map s.answers s.made (length s.made)) (o.said ++ answer_lines s.answers) c
+      → changes < 2 ^ 64 → (c : Contents)
+      → FindsOne (IsKept o.map s.answers s.made (length s.made)) (o.said ++ answer_lines s.answers) c
       → IsAfterPrefix o.script o.map o.said c
-  settled_prefix rest base changes s c one =
-      let no_answers = append-nil s.answers in
-      let no_changes = append-nil s.made in
-      let no_text = append-nil (answer_lines s.answers) in
-      prefix_found s.lines [] rest o.script s.answers [] s.made [] o.map o.said 0 c s.are_made refl
-      (subst (λ lines. o.script ≡ lines ++ rest) (sym (append-nil s.lines)) s.script_is)
+  settled_prefix rest base changes s small c one =
+      after_prefix_now o.map o.said o.script s.lines [] rest s.answers [] s.made []
+      (subst (λ lines. o.script ≡ lines ++ rest) (sym (append-nil s.lines)) s.script_is) s.are_made refl
+      (omega (arith, small, s.changes_are, s.count_is)) c
       (subst (λ answers. FindsOne (IsKept o.map answers (s.made ++ []) (length s.made))
-      (o.said ++ (answer_lines s.answers ++ [])) c) (sym no_answers)
-      (subst (λ made. FindsOne (IsKept o.map s.answers made (length s.made))
-      (o.said ++ (answer_lines s.answers ++ [])) c) (sym no_changes)
-      (subst (λ text. FindsOne (IsKept o.map s.answers s.made (length s.made)) (o.said ++ text) c) (sym no_text) one)))
+      (o.said ++ answer_lines s.answers) c) (sym (append-nil s.answers))
+      (subst (λ made. FindsOne (IsKept o.map s.answers made (length s.made)) (o.said ++ answer_lines s.answers) c)
+      (sym (append-nil s.made)) one))
 
   module _ (now_left : (host : H) (c : Contents) → tells host ≡ Some c → left_since host (moment host) c)
-      (rest : List (List ℕ)) (base : UnitsState H) (changes : ℕ) (s : Settled rest base changes) where
+      (rest : List (List ℕ)) (base : UnitsState H) (changes : ℕ) (s : Settled rest base changes)
+      (small : changes < 2 ^ 64) where
     -- No more is durable than was made.
     pub durable : (n : ℕ) → Contains s.answers (Epoch n) → n ≤ length s.made
     durable n has =
@@ -124,9 +124,8 @@ module _ {H : Type 0} (tells : H → Option Contents) (moment : H → ℕ) (left
       pub found_on : LeavesOnly moment left_since base.host new.host
           (FindsOne (IsKept o.map s.answers s.made (length s.made)) (o.said ++ answer_lines s.answers))
       found_on =
-          one_through moment left_since longer base.host new.host
-          (IsKept o.map s.answers s.made (length s.made)) (o.said ++ answer_lines s.answers) s.each s.state.image
-          s.state.map s.stands all_kept
+          one_kept_or_stored moment left_since base.host new.host (IsKept o.map s.answers s.made (length s.made))
+          s.state.map s.state.image (o.said ++ answer_lines s.answers) s.each s.stands all_kept
           (subst (λ text. KeepsOrStores moment left_since s.state.image text base.host new.host) s.said_is
           (any_moment s.contents s.host_tells s.state.image s.image_is))
 
@@ -141,7 +140,7 @@ module _ {H : Type 0} (tells : H → Option Contents) (moment : H → ℕ) (left
           then_more moment left_since o.host base.host new.host (IsAfterPrefix o.script o.map o.said) s.only
           (weaker moment left_since base.host new.host
           (FindsOne (IsKept o.map s.answers s.made (length s.made)) (o.said ++ answer_lines s.answers))
-          (IsAfterPrefix o.script o.map o.said) (settled_prefix rest base changes s) found_on)
+          (IsAfterPrefix o.script o.map o.said) (settled_prefix rest base changes s small) found_on)
 
       -- The image stays.
       pub settled_on : image_of new ≡ image_of base
