@@ -1,3 +1,7 @@
+ghost use Rattle.std.specs.Prelude.{◌≡◌};
+ghost use Rattle.gds_run.specs.Errors.{base_error, line_error, opening_error};
+ghost use Rattle.gds_run.specs.declared.error.RunError.TheVariants.{Memory, SayFault};
+
 use gds_base::BaseError;
 use gds_lines::LinesError;
 use gds_units::{SayFailed, UnitError};
@@ -46,18 +50,24 @@ pub enum RunError {
 }
 
 impl From<AllocError> for RunError {
+    ghost from_gives = { λ _ error. error ≡ Memory };
+
     fn from(_: AllocError) -> RunError {
         RunError::Memory
     }
 }
 
 impl From<SayFailed> for RunError {
+    ghost from_gives = { λ _ error. error ≡ SayFault };
+
     fn from(_: SayFailed) -> RunError {
         RunError::SayFault
     }
 }
 
 impl From<LinesError> for RunError {
+    ghost from_gives = { λ error whole. whole ≡ line_error error };
+
     fn from(error: LinesError) -> RunError {
         match error {
             LinesError::Memory => RunError::Memory,
@@ -68,6 +78,8 @@ impl From<LinesError> for RunError {
 }
 
 impl From<UnitError> for RunError {
+    ghost from_gives = { λ error whole. whole ≡ opening_error error };
+
     /// Of the errors that an opening ends with.
     fn from(error: UnitError) -> RunError {
         match error {
@@ -83,6 +95,8 @@ impl From<UnitError> for RunError {
 }
 
 impl From<BaseError> for RunError {
+    ghost from_gives = { λ error whole. whole ≡ base_error error };
+
     /// Of the errors that aren't the answer of a line. A run doesn't go on once a write has failed.
     fn from(error: BaseError) -> RunError {
         match error {

@@ -5,6 +5,7 @@ mod call;
 mod error;
 mod line;
 mod lines;
+mod node;
 mod session;
 
 pub use call::{Ran, run};

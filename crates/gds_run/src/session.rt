@@ -1,19 +1,19 @@
 ghost use Rattle.std.specs.Prelude.{◌≡◌, ◌^◌, ◌+◌, ◌<◌, ◌≤◌, ◌∷◌, [], ℕ, List, false, Err, OnErr, OnOk};
 ghost use Rattle.m_key.specs.Reference.{node_of};
 ghost use Rattle.gds_words.specs.Script.{Asks, Request};
-ghost use Rattle.gds_words.specs.Script.Request as asked;
+ghost use Rattle.gds_words.specs.Script as asked;
 ghost use Rattle.gds_run.specs.Ending.{EndsAnswering};
 ghost use Rattle.gds_run.specs.Line.{Means};
 ghost use Rattle.gds_run.specs.Progress.{GoesOn, Origin, Progress, Says};
 
 use crate::error::RunError;
 use crate::line::Line;
-use gds_base::{Base, BaseError};
-use gds_globals::{get, set};
+use crate::node::{set_node, value_of};
+use gds_base::Base;
 use gds_script::{Answer, write_answer};
 use gds_words::ScriptLine;
 use host_model::Host;
-use m_key::{Reference, key_len};
+use m_key::Reference;
 use std::alloc::Global;
 
 /// How many bytes of answers wait at most before they are said.
@@ -86,14 +86,20 @@ impl<H: Host> Session<H> {
     {
         self.say_waiting()?;
         write_answer(alloc, &Answer::Done, &mut self.waiting)?;
-        let answer = set_node(alloc, &mut self.base, reference, value);
-        if let Ok(Answer::Done) = answer {
-            self.changes += 1;
-            return Ok(());
+        match set_node(alloc, &mut self.base, reference, value) {
+            Ok(None) => {
+                self.changes += 1;
+                Ok(())
+            }
+            Ok(Some(refusal)) => {
+                self.waiting.clear();
+                Ok(write_answer(alloc, &refusal, &mut self.waiting)?)
+            }
+            Err(error) => {
+                self.waiting.clear();
+                Err(error)
+            }
         }
-        self.waiting.clear();
-        let answer = answer?;
-        Ok(write_answer(alloc, &answer, &mut self.waiting)?)
     }
 
     fn answer_get(&mut self, alloc: Global, reference: &Reference) -> Result<(), RunError>
@@ -167,45 +173,5 @@ impl<H: Host> Session<H> {
     /// Whether so much waits that it wants to be said.
     pub(crate) fn is_full(&self) -> bool {
         self.waiting.len() >= PIECE
-    }
-}
-
-/// What a SET of a node is answered, which is made where it isn't refused.
-fn set_node<H: Host>(
-    alloc: Global,
-    base: &mut Base<H>,
-    reference: &Reference,
-    value: &[u8],
-) -> Result<Answer, RunError> {
-    match set(alloc, base, reference, value) {
-        Ok(()) => Ok(Answer::Done),
-        Err(BaseError::KeyTooLong) => Ok(Answer::KeyTooLong {
-            len: key_len(reference),
-        }),
-        Err(BaseError::ValueTooLong) => Ok(Answer::ValueTooLong {
-            len: value.len() as u64,
-        }),
-        Err(BaseError::TnSpent) => Ok(Answer::TnSpent),
-        Err(BaseError::Full) => Ok(Answer::Full {
-            free: base.header().free,
-        }),
-        Err(BaseError::TooDeep) => Ok(Answer::TooDeep),
-        Err(error) => Err(error.into()),
-    }
-}
-
-/// What a GET of a node is answered.
-fn value_of<H: Host>(
-    alloc: Global,
-    base: &mut Base<H>,
-    reference: &Reference,
-) -> Result<Answer, RunError> {
-    match get(alloc, base, reference) {
-        Ok(Some(value)) => Ok(Answer::Value { value }),
-        Ok(None) => Ok(Answer::Undefined),
-        Err(BaseError::KeyTooLong) => Ok(Answer::KeyTooLong {
-            len: key_len(reference),
-        }),
-        Err(error) => Err(error.into()),
     }
 }
