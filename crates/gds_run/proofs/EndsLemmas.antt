@@ -78,7 +78,7 @@ module _ {H : Type 0} (told : H → Option Contents) (counts : H → Failures) w
     untold = ends.untold;
     tells = ends.tells;
     cause = tt;
-    counts = counts_same lines.taken lines.untaken lines.untaken refl;
+    took = counts_same lines.taken lines.untaken lines.untaken refl;
     too_long = λ more. absurd (omega (arith, more, few));
     fails = omega arith;
   }
@@ -87,7 +87,7 @@ module _ {H : Type 0} (told : H → Option Contents) (counts : H → Failures) w
     untold = ends.untold;
     tells = ends.tells;
     cause = of_device (told old.host ≡ None) (counts old.host) (counts new.host) lines lines e ends.cause;
-    counts = counts_same lines.taken lines.untaken lines.untaken refl;
+    took = counts_same lines.taken lines.untaken lines.untaken refl;
     too_long = λ more. absurd (omega (arith, more, few));
     fails = omega arith;
   }
@@ -100,7 +100,7 @@ module _ {H : Type 0} (told : H → Option Contents) (counts : H → Failures) w
     untold = λ none. none;
     tells = λ none. none;
     cause = tt;
-    counts = counts_same lines.taken lines.untaken lines.untaken refl;
+    took = counts_same lines.taken lines.untaken lines.untaken refl;
     too_long = λ more. absurd (omega (arith, more, few));
     fails = omega arith;
   }
@@ -114,7 +114,7 @@ module _ {H : Type 0} (told : H → Option Contents) (counts : H → Failures) w
     untold = λ none. second.untold (first.untold none);
     tells = λ none. first.tells (second.tells none);
     cause = tt;
-    counts = counts_then x.untaken y.untaken z.untaken x.taken y.taken z.taken first.counts second.counts;
+    took = counts_then x.untaken y.untaken z.untaken x.taken y.taken z.taken first.took second.took;
     too_long = second.too_long;
     fails = omega (arith, first.fails, second.fails);
   }
@@ -124,7 +124,7 @@ module _ {H : Type 0} (told : H → Option Contents) (counts : H → Failures) w
     tells = λ none. first.tells (second.tells none);
     cause = lines_cause (told mid.host ≡ None) (told old.host ≡ None) (counts old.host) (counts mid.host)
         (counts new.host) x y z e first.failures first.fails first.tells second.cause;
-    counts = counts_then x.untaken y.untaken z.untaken x.taken y.taken z.taken first.counts second.counts;
+    took = counts_then x.untaken y.untaken z.untaken x.taken y.taken z.taken first.took second.took;
     too_long = second.too_long;
     fails = omega (arith, first.fails, second.fails);
   }

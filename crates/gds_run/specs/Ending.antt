@@ -57,7 +57,7 @@ pub record EndsScript {H T : Type 0} (told : H → Option Contents) (counts : H 
   pub untold : told old.host ≡ None → told new.host ≡ None
   pub tells : told new.host ≡ None → told old.host ≡ None
   pub cause : IfErr result (HasLinesCause (told old.host ≡ None) (counts old.host) (counts new.host) before now)
-  pub counts : TellsOn before.untaken now.untaken (Counts before.taken now.taken)
+  pub took : TellsOn before.untaken now.untaken (Counts before.taken now.taken)
   pub too_long : INPUT_LIMIT < now.taken → result ≡ Err InputTooLong
   pub fails : before.failures ≤ now.failures
 
