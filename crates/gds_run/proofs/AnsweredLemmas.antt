@@ -2,7 +2,8 @@
 use Rattle.std.proofs.Common.{◌≡◌, ◌⊎◌, ℕ, ◌+◌, ◌^◌, ◌<◌, ◌≤◌, Bool, true, false, List, [], ◌∷◌, ◌++◌, length, take, Contains}
 use Rattle.std.proofs.Common.{Option, None, Some, MatchOption, arith, refl, sym, ap, subst, ◌∙◌, inl, inr, ⊎_elim}
 use Rattle.std.proofs.Common.{append-nil, append_assoc, take_at, length-append}
-use Rattle.std.proofs.lemmas.Grind.{flat_map-append, take-append-le}
+use Rattle.std.proofs.lemmas.Grind.{flat_map-append}
+use Rattle.std.proofs.lemmas.List.{take-append-le}
 use Rattle.std.proofs.lemmas.List.Elements.{Contains-push_cases}
 use Rattle.host_model.specs.Failures.{Failures}
 use Rattle.host_model.specs.Files.{Contents}
@@ -56,7 +57,7 @@ module _ {H : Type 0} (tells : H → Option Contents) (moment : H → ℕ) (left
     -- Its answer waits with the others.
     pub unchanged : (answer : Answer) → IsNoEpoch answer → Steps p.state line answer p.state
         → Progress tells moment left_since o rest base (waits ++ answer_line answer) changes
-    unchanged answer no step =
+    unchanged answer other step =
         let makes = step_made one line answer p.state p.state step in
         let none = no_change makes.change p.state.changes makes.changes_are in
         let more = append_assoc p.done.told p.done.waiting (answer ∷ []) in
@@ -100,7 +101,7 @@ module _ {H : Type 0} (tells : H → Option Contents) (moment : H → ℕ) (left
               (o.said ++ answer_lines p.done.told) c
               (λ m kept. record {
                 kept = kept.kept;
-                durable = λ n has. ⊎_elim (kept.durable n) (λ is. absurd (no n is))
+                durable = λ n has. ⊎_elim (kept.durable n) (λ is. absurd (other n is))
                     (Contains-push_cases (p.done.told ++ p.done.waiting) answer (Epoch n)
                     (subst (λ all. Contains all (Epoch n)) (sym more) has));
                 few = kept.few;
@@ -160,9 +161,9 @@ module _ {H : Type 0} (tells : H → Option Contents) (moment : H → ℕ) (left
     one_more : (answer : Answer) → IsNoEpoch answer → (more : List Change) (m : Globals)
         → IsKept o.map s.answers s.made (length s.made) m
         → IsKept o.map (s.answers ++ answer ∷ []) (s.made ++ more) (length s.made) m
-    one_more answer no more m kept = record {
+    one_more answer other more m kept = record {
       kept = kept.kept;
-      durable = λ n has. ⊎_elim (kept.durable n) (λ is. absurd (no n is))
+      durable = λ n has. ⊎_elim (kept.durable n) (λ is. absurd (other n is))
           (Contains-push_cases s.answers answer (Epoch n) has);
       few = kept.few;
       is = kept.is ∙ ap (after_all o.map) (sym (take-append-le kept.kept s.made more kept.few));

@@ -11,7 +11,7 @@ use crate::line::Line;
 use crate::node::{set_node, value_of};
 use gds_base::Base;
 use gds_script::{Answer, write_answer};
-use gds_words::ScriptLine;
+use gds_words::{ScriptLine, one_request};
 use host_model::Host;
 use m_key::Reference;
 use std::alloc::Global;
@@ -30,6 +30,7 @@ pub(crate) struct Session<H: Host> {
     pub(crate) waiting: Vec<u8>,
     /// How many changes were made.
     pub(crate) changes: u64,
+    ghost counted: { changes < 2 ^ 64 },
 }
 
 impl<H: Host> Session<H> {
@@ -84,6 +85,7 @@ impl<H: Host> Session<H> {
             → GoesOn H.told H.moment H.left_since o bytes rest self.new.base self.new.waiting.items self.new.changes
             result }
     {
+        one_request();
         self.say_waiting()?;
         write_answer(alloc, &Answer::Done, &mut self.waiting)?;
         match set_node(alloc, &mut self.base, reference, value) {
@@ -113,6 +115,7 @@ impl<H: Host> Session<H> {
             → GoesOn H.told H.moment H.left_since o bytes rest self.new.base self.new.waiting.items self.new.changes
             result }
     {
+        one_request();
         let answer = value_of(alloc, &mut self.base, reference)?;
         Ok(write_answer(alloc, &answer, &mut self.waiting)?)
     }
@@ -128,6 +131,7 @@ impl<H: Host> Session<H> {
             → GoesOn H.told H.moment H.left_since o bytes rest self.new.base self.new.waiting.items self.new.changes
             result }
     {
+        one_request();
         self.say_waiting()?;
         self.base.epoch()?;
         let answer = Answer::Epoch {
@@ -147,6 +151,7 @@ impl<H: Host> Session<H> {
             → GoesOn H.told H.moment H.left_since o bytes rest self.new.base self.new.waiting.items self.new.changes
             result }
     {
+        one_request();
         Ok(write_answer(alloc, &Answer::BadLine, &mut self.waiting)?)
     }
 
