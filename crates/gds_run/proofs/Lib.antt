@@ -7,3 +7,4 @@ pub mod SettledLemmas
 pub mod SayingLemmas
 pub mod AnsweredLemmas
 pub mod GoesLemmas
+pub mod NodeLemmas
