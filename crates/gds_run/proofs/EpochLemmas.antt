@@ -1,5 +1,6 @@
 -- Which answers are those of no epoch.
-use Rattle.std.proofs.Common.{◌≡◌, ℕ, Bool, true, false, List, length, Option, None, Some, MatchBool, MatchOption, ap, ltb}
+use Rattle.std.proofs.Common.{◌≡◌, ℕ, Bool, true, false, List, length, Option, None, Some, MatchBool, MatchOption, ap}
+use Rattle.std.proofs.Common.{ltb}
 use Rattle.std.proofs.Common.{◌∙◌, refl, subst}
 use Rattle.std.specs.FinMap.{get}
 use Rattle.std.proofs.lemmas.Bool.{false≢true}

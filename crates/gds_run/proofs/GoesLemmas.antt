@@ -1,9 +1,9 @@
 -- How answering a line ends.
-use Rattle.std.proofs.Common.{◌≡◌, ℕ, ◌^◌, ◌<◌, List, [], ◌∷◌, ◌++◌, length, take, Option, None, Some, Err, sym, ap, subst}
+use Rattle.std.proofs.Common.{◌≡◌, ℕ, List, ◌∷◌, ◌++◌, length, take, Option, Err, sym, ap, subst}
 use Rattle.std.proofs.Common.{◌∙◌, refl, inl, take_at}
 use Rattle.std.proofs.lemmas.Grind.{flat_map-append}
 use Rattle.host_model.specs.Files.{Contents}
-use Rattle.gds_units.specs.State.{UnitsState, image_of}
+use Rattle.gds_units.specs.State.{UnitsState}
 use Rattle.gds_words.specs.Script.{Asks, Request}
 use Rattle.gds_script.specs.declared.answer.Answer.{Answer}
 use Rattle.gds_script.specs.Answer.{answer_line, answer_lines}

@@ -1,6 +1,6 @@
 -- What a SET and a GET of a node are answered.
-use Rattle.std.proofs.Common.{◌≡◌, ℕ, ◌+◌, ◌^◌, ◌<◌, ◌≤◌, Bool, true, false, cond, ltb, leb, List, length, Option, None, Some}
-use Rattle.std.proofs.Common.{MatchBool, MatchOption, arith, refl, sym, ap, subst, ◌∙◌, le-leb, le-ltb, lt-ltb, true≢false, Err, Ok}
+use Rattle.std.proofs.Common.{◌≡◌, ℕ, ◌+◌, ◌^◌, ◌<◌, Bool, false, cond, ltb, List, length, Option, None, Some}
+use Rattle.std.proofs.Common.{MatchBool, arith, refl, sym, ap, subst, ◌∙◌, le-ltb, true≢false, Err, Ok}
 use Rattle.std.proofs.lemmas.Bool.{lt-leb}
 use Rattle.std.specs.Option.{ForSome}
 use Rattle.host_model.specs.Failures.{Failures, NeverFell}
@@ -24,11 +24,11 @@ use Rattle.gds_globals.specs.Node.{HasValue}
 use Rattle.gds_globals.specs.Ready.{DiffersInAtMost, IsAfterSet, IsHeaderAfter, UsesAtMost}
 use Rattle.gds_script.specs.declared.answer.Answer.{Answer}
 use Rattle.gds_script.specs.declared.answer.Answer.TheVariants.{Full, KeyTooLong, TnSpent, TooDeep, ValueTooLong}
-use Rattle.gds_script.specs.Script.{Answers, AnswersSet, State, Tells, TellsValue, refusal, told_len}
+use Rattle.gds_script.specs.Script.{Tells, TellsValue, refusal, told_len}
 use Rattle.gds_run.specs.declared.error.RunError.{RunError}
 use Rattle.gds_run.specs.Ending.{EndsAnswering, HasDeviceCause}
 use Rattle.gds_run.specs.Errors.{base_error}
-use Rattle.gds_run.specs.Setting.{IsAnswered, IsSetOrRefused, IsStateOf}
+use Rattle.gds_run.specs.Setting.{IsAnswered, IsSetOrRefused}
 
 -- ---- no refusal is due
 
@@ -61,19 +61,23 @@ module _ {H : Type 0} (old new : UnitsState H) (p : Place)
     pub value_told : (bytes : Option (List ℕ)) (answer : Answer) → TellsValue bytes answer
         → (old.header.key_max < length (key_bytes p.node) → ⊥)
         → ForSome (image_of old) (λ image. HasValue image p bytes) → IsAnswered old new (asked.get p.node) answer
-    value_told bytes answer tells short has =
-        (same, λ state is.
-        let here = ap (λ (h : Header). h.key_max) (fields state.image is.image_is) in
-        let test : ltb (fields_of state.image).key_max (length (key_bytes p.node)) ≡ false =
-        le-ltb (fields_of state.image).key_max (length (key_bytes p.node)) (omega (arith, here, short)) in
-        (subst (λ t. MatchBool t (answer ≡ KeyTooLong (told_len (length (key_bytes p.node))))
-        (Tells p.node state.map answer)) (sym test)
-        (record {
-          place = p;
-          node_is = refl;
-          tells = subst (λ found. TellsValue found answer)
-              (sym (has state.image is.image_is state.map is.stands)) tells;
-        }), refl))
+    value_told bytes answer tells short has = (
+      same,
+      λ state is.
+          let here = ap (λ (h : Header). h.key_max) (fields state.image is.image_is) in
+          let test : ltb (fields_of state.image).key_max (length (key_bytes p.node)) ≡ false =
+          le-ltb (fields_of state.image).key_max (length (key_bytes p.node)) (omega (arith, here, short)) in (
+            subst (λ t. MatchBool t (answer ≡ KeyTooLong (told_len (length (key_bytes p.node))))
+                (Tells p.node state.map answer)) (sym test)
+                (record {
+                  place = p;
+                  node_is = refl;
+                  tells = subst (λ found. TellsValue found answer)
+                      (sym (has state.image is.image_is state.map is.stands)) tells;
+                }),
+            refl,
+          ),
+    )
 
   pub set_made : (value : List ℕ) → IsWithinLimits old.header → IsWithinLimits new.header
       → ForSome (image_of new) (λ image. fields_of image ≡ new.header)
@@ -83,7 +87,8 @@ module _ {H : Type 0} (old new : UnitsState H) (p : Place)
       → TellsOn (image_of old) (image_of new) (DiffersInAtMost 64) → IsHeaderAfter old.header new.header
       → IsSetOrRefused old new p.node value None
   set_made value limits new_limits new_fields has map used differs header before is =
-      let uses : List ℕ → List ℕ → Type 0 = λ image file. UsesAtMost 32 image file × DiffersInAtMost 64 image file in
+      let uses : List ℕ → List ℕ → Type 0 =
+      λ image file. UsesAtMost 32 image file × DiffersInAtMost 64 image file in
       let at = TellsOn-some (image_of old) (image_of new) (λ image file. IsAfterSet p value image file × uses image file)
       before.image is.image_is (both (image_of old) (image_of new) (IsAfterSet p value) uses map
       (both (image_of old) (image_of new) (UsesAtMost 32) (DiffersInAtMost 64) used differs)) in
@@ -94,22 +99,23 @@ module _ {H : Type 0} (old new : UnitsState H) (p : Place)
       (omega (arith, limits.total_to, ap (λ (h : Header). h.total) was, ap (λ (h : Header). h.limit) was)) in
       let new_room = room_by_header file
       (omega (arith, new_limits.total_to, ap (λ (h : Header). h.total) now, ap (λ (h : Header). h.limit) now)) in
-      let stands = at.2.0 before.map is.stands in
-      (ap (λ (h : Header). refusal h (length (key_bytes p.node)) (length value)) was
-      ∙ by_none old.header (length (key_bytes p.node)) (length value) has,
-      record { image = file; map = after before.map (set_value p value); changes = before.changes + 1 },
-      record {
-        place = p;
-        node_is = refl;
-        map_is = refl;
-        stands = stands;
-        header = subst (λ (h : Header). IsHeaderAfter h (fields_of file)) (sym was)
-            (subst (λ (h : Header). IsHeaderAfter old.header h) (sym now) header);
-        room = omega (arith, at.2.1.0, old_room, new_room);
-        differs = at.2.1.1;
-        changes_are = refl;
-      },
-      record { image_is = at.1; stands = stands })
+      let stands = at.2.0 before.map is.stands in (
+        ap (λ (h : Header). refusal h (length (key_bytes p.node)) (length value)) was
+            ∙ by_none old.header (length (key_bytes p.node)) (length value) has,
+        record { image = file; map = after before.map (set_value p value); changes = before.changes + 1 },
+        record {
+          place = p;
+          node_is = refl;
+          map_is = refl;
+          stands = stands;
+          header = subst (λ (h : Header). IsHeaderAfter h (fields_of file)) (sym was)
+              (subst (λ (h : Header). IsHeaderAfter old.header h) (sym now) header);
+          room = omega (arith, at.2.1.0, old_room, new_room);
+          differs = at.2.1.1;
+          changes_are = refl;
+        },
+        record { image_is = at.1; stands = stands },
+      )
 
 -- ---- why a SET failed
 

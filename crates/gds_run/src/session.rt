@@ -52,7 +52,8 @@ impl<H: Host> Session<H> {
         requires few { self.old.changes < 2 ^ 63 }
         ensures ends { EndsAnswering H.told H.failures self.old.base self.new.base result }
         ensures changes { self.new.changes ≤ self.old.changes + 1 }
-        ensures run { (o : Origin H) (bytes : List ℕ) (rest : List (List ℕ)) → Means bytes line.now
+        ensures run { (o : Origin H) (bytes : List ℕ) (rest : List (List ℕ))
+            → Means bytes line.now
             → Progress H.told H.moment H.left_since o (bytes ∷ rest) self.old.base self.old.waiting.items
             self.old.changes
             → GoesOn H.told H.moment H.left_since o bytes rest self.new.base self.new.waiting.items self.new.changes
@@ -79,7 +80,8 @@ impl<H: Host> Session<H> {
         requires few { self.old.changes < 2 ^ 63 }
         ensures ends { EndsAnswering H.told H.failures self.old.base self.new.base result }
         ensures changes { self.new.changes ≤ self.old.changes + 1 }
-        ensures run { (o : Origin H) (bytes : List ℕ) (rest : List (List ℕ)) → Asks bytes (asked.set (node_of reference.now) value.now)
+        ensures run { (o : Origin H) (bytes : List ℕ) (rest : List (List ℕ))
+            → Asks bytes (asked.set (node_of reference.now) value.now)
             → Progress H.told H.moment H.left_since o (bytes ∷ rest) self.old.base self.old.waiting.items
             self.old.changes
             → GoesOn H.told H.moment H.left_since o bytes rest self.new.base self.new.waiting.items self.new.changes
@@ -109,7 +111,8 @@ impl<H: Host> Session<H> {
         requires few { self.old.changes < 2 ^ 63 }
         ensures ends { EndsAnswering H.told H.failures self.old.base self.new.base result }
         ensures changes { self.new.changes ≤ self.old.changes + 1 }
-        ensures run { (o : Origin H) (bytes : List ℕ) (rest : List (List ℕ)) → Asks bytes (asked.get (node_of reference.now))
+        ensures run { (o : Origin H) (bytes : List ℕ) (rest : List (List ℕ))
+            → Asks bytes (asked.get (node_of reference.now))
             → Progress H.told H.moment H.left_since o (bytes ∷ rest) self.old.base self.old.waiting.items
             self.old.changes
             → GoesOn H.told H.moment H.left_since o bytes rest self.new.base self.new.waiting.items self.new.changes
@@ -125,7 +128,8 @@ impl<H: Host> Session<H> {
         requires few { self.old.changes < 2 ^ 63 }
         ensures ends { EndsAnswering H.told H.failures self.old.base self.new.base result }
         ensures changes { self.new.changes ≤ self.old.changes + 1 }
-        ensures run { (o : Origin H) (bytes : List ℕ) (rest : List (List ℕ)) → Asks bytes asked.epoch
+        ensures run { (o : Origin H) (bytes : List ℕ) (rest : List (List ℕ))
+            → Asks bytes asked.epoch
             → Progress H.told H.moment H.left_since o (bytes ∷ rest) self.old.base self.old.waiting.items
             self.old.changes
             → GoesOn H.told H.moment H.left_since o bytes rest self.new.base self.new.waiting.items self.new.changes
@@ -145,7 +149,8 @@ impl<H: Host> Session<H> {
         requires few { self.old.changes < 2 ^ 63 }
         ensures ends { EndsAnswering H.told H.failures self.old.base self.new.base result }
         ensures changes { self.new.changes ≤ self.old.changes + 1 }
-        ensures run { (o : Origin H) (bytes : List ℕ) (rest : List (List ℕ)) → ((request : Request) → Asks bytes request → ⊥)
+        ensures run { (o : Origin H) (bytes : List ℕ) (rest : List (List ℕ))
+            → ((request : Request) → Asks bytes request → ⊥)
             → Progress H.told H.moment H.left_since o (bytes ∷ rest) self.old.base self.old.waiting.items
             self.old.changes
             → GoesOn H.told H.moment H.left_since o bytes rest self.new.base self.new.waiting.items self.new.changes

@@ -1,4 +1,4 @@
-use Rattle.std.proofs.Common.{◌≡◌, ◌∙◌, None, Some, ap, option_map, refl}
+use Rattle.std.proofs.Common.{◌∙◌, None, Some, ap, option_map, refl}
 use Rattle.m_key.specs.Reference.{place_of}
 use Rattle.gds_script.specs.declared.answer.Answer.TheVariants.{Undefined, Value}
 use Rattle.gds_units.specs.State.{image_of}

@@ -11,5 +11,5 @@ returns-clause-run g c o bytes rest none p =
     let s = c.args.self.now in
     subst (λ waits. Progress h.told h.moment h.left_since o rest s.base waits s.changes)
     (sym c.in_ok-write_answer.ensures.ok)
-    (unchanged h.told h.moment h.left_since c.one_request.ensures o bytes rest s.base s.waiting.items s.changes p BadLine
-    bad_no_epoch (inr (none, refl, refl)))
+    (unchanged h.told h.moment h.left_since c.one_request.ensures o bytes rest s.base s.waiting.items s.changes p
+    BadLine bad_no_epoch (inr (none, refl, refl)))

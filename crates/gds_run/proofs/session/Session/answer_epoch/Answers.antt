@@ -1,6 +1,6 @@
-use Rattle.std.proofs.Common.{◌≡◌, ◌^◌, ◌<◌, List, [], ◌∷◌, ◌++◌, arith, ap, subst, sym, ◌∙◌}
+use Rattle.std.proofs.Common.{◌≡◌, ◌^◌, ◌<◌, ◌∷◌, ◌++◌, arith, ap, subst, sym, ◌∙◌}
 use Rattle.std.proofs.lemmas.Result.{err_from_is_err_and}
-use Rattle.gds_units.specs.State.{UnitsState, image_of}
+use Rattle.gds_units.specs.State.{image_of}
 use Rattle.gds_script.specs.declared.answer.Answer.TheVariants.{Epoch}
 use Rattle.gds_script.specs.Answer.{answer_line}
 use Rattle.gds_run.specs.declared.error.RunError.TheVariants.{SayFault}

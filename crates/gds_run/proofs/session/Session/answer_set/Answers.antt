@@ -1,6 +1,5 @@
 use Rattle.std.proofs.Common.{◌≡◌, ℕ, ◌+◌, ◌^◌, ◌<◌, List, [], ◌∷◌, ◌++◌, arith, ap, subst, sym, ◌∙◌}
 use Rattle.std.proofs.lemmas.Result.{err_from_is_err_and}
-use Rattle.gds_units.specs.State.{UnitsState, image_of}
 use Rattle.gds_words.specs.Script as asked
 use Rattle.m_key.specs.Reference.{node_of}
 use Rattle.gds_script.specs.declared.answer.Answer.TheVariants.{Done}
@@ -36,7 +35,8 @@ returns-in_err-write_answer-in-Ok-Some-clause-run g c o bytes rest asks p =
     (c.in_ok-say_waiting.ensures.run o (bytes ∷ rest) p) few c.in_ok-say_waiting.ensures.empty in
     let new = c.set_node.new.base in
     let leaves = c.set_node.ensures.leaves in
-    let refused : IsAnswered s.base new (asked.set (node_of c.args.reference.now) c.args.value.now) c.in-Ok-Some.refusal =
+    let refused : IsAnswered s.base new (asked.set (node_of c.args.reference.now) c.args.value.now)
+    c.in-Ok-Some.refusal =
     subst (IsSetOrRefused s.base new (node_of c.args.reference.now) c.args.value.now) c.in-Ok-Some.field-0-is
     c.in-Ok-Some.ensures.answer in
     let q = progress_of h.told h.moment h.left_since o (bytes ∷ rest) new s.changes
@@ -77,7 +77,8 @@ returns-in_ok-write_answer-in-Ok-Some-clause-run g c o bytes rest asks p =
     (c.in_ok-say_waiting.ensures.run o (bytes ∷ rest) p) few c.in_ok-say_waiting.ensures.empty in
     let new = c.set_node.new.base in
     let leaves = c.set_node.ensures.leaves in
-    let refused : IsAnswered s.base new (asked.set (node_of c.args.reference.now) c.args.value.now) c.in-Ok-Some.refusal =
+    let refused : IsAnswered s.base new (asked.set (node_of c.args.reference.now) c.args.value.now)
+    c.in-Ok-Some.refusal =
     subst (IsSetOrRefused s.base new (node_of c.args.reference.now) c.args.value.now) c.in-Ok-Some.field-0-is
     c.in-Ok-Some.ensures.answer in
     let q = progress_of h.told h.moment h.left_since o (bytes ∷ rest) new s.changes

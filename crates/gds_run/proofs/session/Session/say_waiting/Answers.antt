@@ -1,8 +1,8 @@
-use Rattle.std.proofs.Common.{◌≡◌, ℕ, List, arith, ap, subst, sym, take}
+use Rattle.std.proofs.Common.{◌≡◌, ℕ, List, ap, subst, sym, take}
 use Rattle.std.proofs.lemmas.Result.{err_from_is_err_and}
-use Rattle.host_model.specs.Files.{Contents, saying}
+use Rattle.host_model.specs.Files.{saying}
 use Rattle.host_model.proofs.FrameLemmas.{TellsOn-some}
-use Rattle.gds_units.specs.State.{UnitsState, image_of}
+use Rattle.gds_units.specs.State.{image_of}
 use Rattle.gds_run.specs.Progress.{Progress, Says}
 use Rattle.gds_run.proofs.SayingLemmas.{cut_short, settled_saying}
 use Rattle.gds_run.proofs.SettledLemmas.{progress_of}
