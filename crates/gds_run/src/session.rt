@@ -123,9 +123,11 @@ impl<H: Host> Session<H> {
         Ok(write_answer(alloc, &answer, &mut self.waiting)?)
     }
 
-    fn answer_epoch(&mut self, alloc: Global) -> Result<(), RunError>
+    /// Makes all changes durable, and answers that.
+    pub(crate) fn answer_epoch(&mut self, alloc: Global) -> Result<(), RunError>
         requires going { self.old.base.stopped ≡ false }
         requires few { self.old.changes < 2 ^ 63 }
+        ensures stored { OnOk result (self.new.base.changed ≡ 0) }
         ensures ends { EndsAnswering H.told H.failures self.old.base self.new.base result }
         ensures changes { self.new.changes ≤ self.old.changes + 1 }
         ensures run { (o : Origin H) (bytes : List ℕ) (rest : List (List ℕ))
