@@ -1,5 +1,6 @@
 -- The lines of answers one behind another, and fronts of them.
-use Rattle.std.proofs.Common.{◌≡◌, ℕ, suc, ◌+◌, List, [], ◌∷◌, ◌++◌, length, take, refl, sym, ap, ◌∙◌, arith, length-append}
+use Rattle.std.proofs.Common.{◌≡◌, ℕ, suc, ◌+◌, List, [], ◌∷◌, ◌++◌, length, take, refl, sym, ap, ◌∙◌, arith}
+use Rattle.std.proofs.Common.{length-append}
 use Rattle.std.proofs.lemmas.List.{append-nil, append_assoc}
 use Rattle.std.proofs.lemmas.List.Concat.{flat_map-append}
 use Rattle.gds_script.specs.declared.answer.Answer.{Answer}
@@ -32,10 +33,13 @@ front_past (x ∷ xs) ys n =
     ap (λ k. take k (x ∷ (xs ++ ys))) {x = suc (length xs) + n} {y = suc (length xs + n)} (omega arith)
     ∙ ap (λ bytes. x ∷ bytes) (front_past xs ys n)
 
+-- Some first bytes of the lines of some answers.
+abbrev pub IsFrontOf : List ℕ → List ℕ → List Answer → Type 0
+IsFrontOf before text answers = (n : ℕ) × (text ≡ before ++ take n (answer_lines answers))
+
 -- What was said when some first bytes of what waited were said are some first bytes of all.
 pub said_front : (before : List ℕ) (told waiting : List Answer) (n : ℕ)
-    → (k : ℕ)
-    × ((before ++ answer_lines told) ++ take n (answer_lines waiting) ≡ before ++ take k (answer_lines (told ++ waiting)))
+    → IsFrontOf before ((before ++ answer_lines told) ++ take n (answer_lines waiting)) (told ++ waiting)
 said_front before told waiting n = (
   length (answer_lines told) + n,
   append_assoc before (answer_lines told) (take n (answer_lines waiting))

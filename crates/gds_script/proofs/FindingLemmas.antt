@@ -67,7 +67,8 @@ one_found_saying P text bytes before c each is =
     let n : ℕ = is.2.0 in (
       n,
       found_as P found.map (text ++ take n bytes) c found.has
-          (subst (λ x. Finds found.map (text ++ take n bytes) x) (sym is.2.1) (said_more found.map text bytes is.0 n found.finds)),
+          (subst (λ x. Finds found.map (text ++ take n bytes) x) (sym is.2.1)
+          (said_more found.map text bytes is.0 n found.finds)),
     )
 
 module _ {H : Type 0} (moment : H → ℕ) (left_since : H → ℕ → Contents → Type 0) (old new : H) where

@@ -26,7 +26,8 @@ text_at [] text is = absurd (omega (arith, is.1))
 text_at (answer ∷ answers) text is =
     let here : Answer = get_or (answer ∷ answers) is.0 answer in
     let low : is.0 < length (answer ∷ answers) = omega (arith, is.1, length-map (answer ∷ answers) answer_text) in
-    (here, Contains-get_or (answer ∷ answers) is.0 answer low, sym is.2 ∙ get_or-map answer_text (answer ∷ answers) is.0 answer text low)
+    let same = sym is.2 ∙ get_or-map answer_text (answer ∷ answers) is.0 answer text low in
+    (here, Contains-get_or (answer ∷ answers) is.0 answer low, same)
 
 epoch_among : (answers : List Answer) (most n : ℕ) → most < 2 ^ 64
     → ((k : ℕ) → Contains answers (Epoch k) → k ≤ most)
@@ -65,7 +66,8 @@ after_prefix m before script told_lines waiting_lines rest told waiting told_cha
     let accepted = made_are_accepted (told_lines ++ parts.first_lines) (parts.second_lines ++ rest) (told ++ some)
     (told_changes ++ parts.first_changes) made in
     let among : (told ++ some) ++ drop whole.0 waiting ≡ told ++ waiting =
-    append_assoc told some (drop whole.0 waiting) ∙ ap (λ answers. told ++ answers) (take-append-drop whole.0 waiting) in
+    append_assoc told some (drop whole.0 waiting)
+    ∙ ap (λ answers. told ++ answers) (take-append-drop whole.0 waiting) in
     let durable : (k : ℕ) → Contains (told ++ some) (Epoch k) → k ≤ found.has.kept =
     λ k has. found.has.durable k (subst (λ answers. Contains answers (Epoch k)) among
     (Contains-append_left (told ++ some) (drop whole.0 waiting) (Epoch k) has)) in
@@ -100,5 +102,6 @@ after_prefix_now m before script told_lines waiting_lines rest told waiting told
     told_made waiting_made small c found =
     after_prefix m before script told_lines waiting_lines rest told waiting told_changes waiting_changes script_is
     told_made waiting_made small 0 c
-    (subst (λ text. FindsOne (IsKept m (told ++ waiting) (told_changes ++ waiting_changes) (length told_changes)) text c)
+    (subst
+    (λ text. FindsOne (IsKept m (told ++ waiting) (told_changes ++ waiting_changes) (length told_changes)) text c)
     (sym (append-nil (before ++ answer_lines told))) found)

@@ -1,6 +1,7 @@
 -- Lines that are answered one after another: one more, and how many changes the answers may tell.
 use Rattle.std.proofs.Common.{◌≡◌, ℕ, ◌≤◌, Bool, true, false, List, [], ◌∷◌, ◌++◌, length, Contains, Option, None}
-use Rattle.std.proofs.Common.{zero, suc, ◌<◌, get_or, Some, MatchBool, MatchOption, refl, sym, ap, subst, ◌∙◌, arith, inl, inr, ⊎_elim, ltb}
+use Rattle.std.proofs.Common.{zero, suc, ◌<◌, get_or, Some, MatchBool, MatchOption, refl, sym, ap, subst, ◌∙◌, arith}
+use Rattle.std.proofs.Common.{inl, inr, ⊎_elim, ltb}
 use Rattle.std.specs.FinMap.{get}
 use Rattle.std.proofs.lemmas.Bool.{false≢true}
 use Rattle.std.proofs.lemmas.List.Elements.{Contains-append_cases}
@@ -10,8 +11,8 @@ use Rattle.gds_header.specs.Fields.{fields_of}
 use Rattle.gds_words.specs.Script.{Asks, Request, epoch}
 use Rattle.gds_words.specs.Script as asked
 use Rattle.gds_script.specs.declared.answer.Answer.{Answer}
-use Rattle.gds_script.specs.declared.answer.Answer.TheVariants.{BadLine, Done, Epoch, Full, KeyTooLong, TnSpent, TooDeep}
-use Rattle.gds_script.specs.declared.answer.Answer.TheVariants.{Undefined, Value, ValueTooLong}
+use Rattle.gds_script.specs.declared.answer.Answer.TheVariants.{BadLine, Done, Epoch, Full, KeyTooLong, TnSpent}
+use Rattle.gds_script.specs.declared.answer.Answer.TheVariants.{TooDeep, Undefined, Value, ValueTooLong}
 use Rattle.gds_script.specs.Script.{Answers, AnswersSet, Runs, State, Steps, Tells, TellsValue, refusal, told_len}
 use Rattle.gds_script.proofs.StepLemmas.{OneRequest, refusal_refuses, refuses, step_made}
 

@@ -11,8 +11,8 @@ use Rattle.gds_header.specs.declared.header.Header.{Header}
 use Rattle.gds_words.specs.Script.{Asks, Request, epoch}
 use Rattle.gds_words.specs.Script as asked
 use Rattle.gds_script.specs.declared.answer.Answer.{Answer}
-use Rattle.gds_script.specs.declared.answer.Answer.TheVariants.{BadLine, Done, Epoch, Full, KeyTooLong, TnSpent, TooDeep}
-use Rattle.gds_script.specs.declared.answer.Answer.TheVariants.{Undefined, Value, ValueTooLong}
+use Rattle.gds_script.specs.declared.answer.Answer.TheVariants.{BadLine, Done, Epoch, Full, KeyTooLong, TnSpent}
+use Rattle.gds_script.specs.declared.answer.Answer.TheVariants.{TooDeep, Undefined, Value, ValueTooLong}
 use Rattle.gds_script.specs.Answer.{answer_text}
 use Rattle.gds_script.specs.Said.{Accepts, AsksFor, with_change}
 use Rattle.gds_script.specs.Script.{Answers, AnswersSet, State, Steps, refusal, told_len}

@@ -7,12 +7,13 @@ use Rattle.std.proofs.lemmas.Fmt.{decimal_is_IsNumeral, decimal_is_IsNumeral_wid
 use Rattle.std.specs.Fmt.{decimal, digit_glyph, digits, digits_onto}
 use Rattle.std.specs.Str.Parse.{digits_value}
 use Rattle.m_text.specs.Front.{leads}
-use Rattle.m_text.specs.Grammar.{Piece, Word, c, char, coded, doubled, joined, piece_text, quoted, word_text, zch, zchar}
+use Rattle.m_text.specs.Grammar.{Piece, Word, c, char, coded, doubled, joined, piece_text, quoted, word_text, zch}
+use Rattle.m_text.specs.Grammar.{zchar}
 use Rattle.m_text.specs.Written.{is_printable, led_by, pieces_of, run_of, runs_of, value_text}
 use Rattle.m_text.specs.Written.{decimal as code_digits}
 use Rattle.gds_script.specs.declared.answer.Answer.{Answer}
-use Rattle.gds_script.specs.declared.answer.Answer.TheVariants.{BadLine, Done, Epoch, Full, KeyTooLong, TnSpent, TooDeep}
-use Rattle.gds_script.specs.declared.answer.Answer.TheVariants.{Undefined, Value, ValueTooLong}
+use Rattle.gds_script.specs.declared.answer.Answer.TheVariants.{BadLine, Done, Epoch, Full, KeyTooLong, TnSpent}
+use Rattle.gds_script.specs.declared.answer.Answer.TheVariants.{TooDeep, Undefined, Value, ValueTooLong}
 use Rattle.gds_script.specs.Answer.{answer_text}
 
 -- no byte 10 is in it
@@ -232,5 +233,6 @@ decimal_same n m small e =
     (λ (below : n < 10 ^ 64).
     sym (decimal_is_IsNumeral_wide n below).1 ∙ ap (digits_value 10) e ∙ (decimal_is_IsNumeral m small).1)
     (λ (above : 10 ^ 64 ≤ n).
-    absurd (omega (arith, decimal_many n above, ap length e, length-decimal-le 20 m (omega arith) (omega (arith, small)) small)))
+    let short = length-decimal-le 20 m (omega arith) (omega (arith, small)) small in
+    absurd (omega (arith, decimal_many n above, ap length e, short)))
     (cases_lt n (10 ^ 64))

@@ -69,7 +69,8 @@ lines_cut (answer ∷ answers) n =
 
 -- All lines of some answers, and others cut off: the whole lines are those of the first answers and of some others.
 pub whole_lines_are : (told waiting : List Answer) (n : ℕ)
-    → (j : ℕ) × (whole_lines (answer_lines told ++ take n (answer_lines waiting)) ≡ map answer_text (told ++ take j waiting))
+    → (j : ℕ)
+    × (whole_lines (answer_lines told ++ take n (answer_lines waiting)) ≡ map answer_text (told ++ take j waiting))
 whole_lines_are told waiting n =
     let some = lines_cut waiting n in (
       some.0,

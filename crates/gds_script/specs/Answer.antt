@@ -3,8 +3,8 @@ use Rattle.std.specs.Prelude.{ℕ, List, [], ◌∷◌, ◌++◌, codes, flat_ma
 use Rattle.std.specs.Fmt.{decimal}
 use Rattle.m_text.specs.Written.{value_text}
 use Rattle.gds_script.specs.declared.answer.Answer.{Answer}
-use Rattle.gds_script.specs.declared.answer.Answer.TheVariants.{BadLine, Done, Epoch, Full, KeyTooLong, TnSpent, TooDeep}
-use Rattle.gds_script.specs.declared.answer.Answer.TheVariants.{Undefined, Value, ValueTooLong}
+use Rattle.gds_script.specs.declared.answer.Answer.TheVariants.{BadLine, Done, Epoch, Full, KeyTooLong, TnSpent}
+use Rattle.gds_script.specs.declared.answer.Answer.TheVariants.{TooDeep, Undefined, Value, ValueTooLong}
 
 -- The greatest level of a root is 7.
 abbrev pub answer_text : Answer → List ℕ

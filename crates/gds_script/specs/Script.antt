@@ -16,8 +16,8 @@ use Rattle.gds_words.specs.Script.{Asks, Request, epoch}
 use Rattle.gds_words.specs.Script as asked
 use Rattle.gds_globals.specs.Ready.{DiffersInAtMost, IsHeaderAfter}
 use Rattle.gds_script.specs.declared.answer.Answer.{Answer}
-use Rattle.gds_script.specs.declared.answer.Answer.TheVariants.{BadLine, Done, Epoch, Full, KeyTooLong, TnSpent, TooDeep}
-use Rattle.gds_script.specs.declared.answer.Answer.TheVariants.{Undefined, Value, ValueTooLong}
+use Rattle.gds_script.specs.declared.answer.Answer.TheVariants.{BadLine, Done, Epoch, Full, KeyTooLong, TnSpent}
+use Rattle.gds_script.specs.declared.answer.Answer.TheVariants.{TooDeep, Undefined, Value, ValueTooLong}
 
 -- an image, the map that it stands for, and how many changes were made
 pub record State : Type 0 where
