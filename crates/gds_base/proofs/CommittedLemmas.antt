@@ -1,7 +1,7 @@
 -- What a commit leaves of what is told.
 use Rattle.std.proofs.Common.{◌≡◌, ℕ, ◌+◌, ◌<◌, ◌^◌, List, length, Option, None, Some, Result, Ok, Err, refl}
 use Rattle.std.proofs.Common.{sym, ap, subst, ◌∙◌, arith}
-use Rattle.std.specs.Prelude.{OnErr, OnOk, option_map}
+use Rattle.std.specs.Prelude.{All, OnErr, OnOk, option_map}
 use Rattle.std.specs.Option.{ForSome}
 use Rattle.std.proofs.lemmas.List.{length-map}
 use Rattle.host_model.specs.Told.{TellsOn}
@@ -14,9 +14,10 @@ use Rattle.gds_epoch.specs.Waiting.{WaitingUnit}
 use Rattle.gds_epoch.specs.WaitingView.{unit_of, units_of}
 use Rattle.gds_epoch.specs.declared.waiting.UnitBytes.{UnitBytes}
 use Rattle.gds_draft.specs.Committed.{IsCommitted, next_header}
-use Rattle.gds_draft.specs.Draft.{DraftState}
+use Rattle.gds_draft.specs.Draft.{DraftState, HoldsBytes}
 use Rattle.gds_draft.specs.Drafted.{drafted}
 use Rattle.gds_draft.specs.Laws.{IsDraftOf}
+use Rattle.gds_draft.proofs.BytesLemmas.{committed_is_bytes}
 use Rattle.gds_draft.proofs.CommitLemmas.{committed_is_stamped}
 use Rattle.gds_draft.proofs.DraftLemmas.{drafted_read}
 use Rattle.gds_file.proofs.StampLemmas.{stamp_keeps_trees}
@@ -89,32 +90,38 @@ committed_faultless image draft file is few faultless made =
           (omega (arith, few, ap (λ (h : Header). h.tn) fields));
     }
 
-module _ (draft : DraftState) (few : draft.header.tn < 2 ^ 63) where
-  -- So it is where it is told, whether the commit was done or not.
-  after_ok : (old new : Option (List ℕ)) → ForSome old (λ image. IsDraftOf image draft)
-      → ForSome old (λ image. IsFaultless (drafted draft image)) → TellsOn old new (IsCommitted draft)
-      → (old ≡ None → new ≡ None) → ForSome new IsFaultless
-  after_ok None new is faultless made none file told =
+module _ (draft : DraftState) (P : List ℕ → Type 0) where
+  -- What a commit makes of each image has P where it is told.
+  after_ok : (old new : Option (List ℕ))
+      → ((image file : List ℕ) → old ≡ Some image → IsCommitted draft image file → P file)
+      → TellsOn old new (IsCommitted draft) → (old ≡ None → new ≡ None) → ForSome new P
+  after_ok None new each made none file told =
       absurd (let no : None ≡ Some file = sym (none refl) ∙ told in cc)
-  after_ok (Some image) new is faultless made none file told =
+  after_ok (Some image) new each made none file told =
       let at = TellsOn-some (Some image) new (IsCommitted draft) image refl made in
       let here : at.0 ≡ file = some_same at.0 file (sym at.1 ∙ told) in
-      committed_faultless image draft file (is image refl) few (faultless image refl)
-      (subst (IsCommitted draft image) here at.2)
+      each image file refl (subst (IsCommitted draft image) here at.2)
 
-  pub stays_base : {H T E : Type 0} (old new : UnitsState H) (room : List ℕ) (result : Result T E)
-      → IsBase old room → IsDraftFor old.header draft
-      → ForSome (image_of old) (λ image. IsDraftOf image draft)
-      → ForSome (image_of old) (λ image. IsFaultless (drafted draft image))
-      → OnOk result (new.header ≡ next_header draft.header)
-      → OnOk result (TellsOn (image_of old) (image_of new) (IsCommitted draft))
-      → OnErr result ((image_of new ≡ image_of old) × (new.header ≡ old.header))
-      → (image_of old ≡ None → image_of new ≡ None) → IsBase new room
-  stays_base old new room (Ok value) held fits is faultless header made err none = record {
-    faultless = after_ok (image_of old) (image_of new) is faultless made none;
-    size = held.size ∙ sym fits.block_size ∙ ap (λ (h : Header). h.block_size) (sym header);
-  }
-  stays_base old new room (Err error) held fits is faultless header made err none = record {
-    faultless = subst (λ told. ForSome told IsFaultless) (sym err.0) held.faultless;
-    size = held.size ∙ ap (λ (h : Header). h.block_size) (sym err.1);
-  }
+-- The base is one again, whether the commit was done or not.
+pub stays_base : {H T E : Type 0} (draft : DraftState) (old new : UnitsState H) (room : List ℕ) (result : Result T E)
+    → draft.header.tn < 2 ^ 63 → HoldsBytes draft → IsBase old room → IsDraftFor old.header draft
+    → ForSome (image_of old) (λ image. IsDraftOf image draft)
+    → ForSome (image_of old) (λ image. IsFaultless (drafted draft image))
+    → OnOk result (new.header ≡ next_header draft.header)
+    → OnOk result (TellsOn (image_of old) (image_of new) (IsCommitted draft))
+    → OnErr result ((image_of new ≡ image_of old) × (new.header ≡ old.header))
+    → (image_of old ≡ None → image_of new ≡ None) → IsBase new room
+stays_base draft old new room (Ok value) few holds held fits is faultless header made err none = record {
+  faultless = after_ok draft IsFaultless (image_of old) (image_of new)
+      (λ image file told done. committed_faultless image draft file (is image told) few (faultless image told) done)
+      made none;
+  bytes = after_ok draft (All (λ b. b < 256)) (image_of old) (image_of new)
+      (λ image file told done. committed_is_bytes image draft file (is image told) few holds (held.bytes image told)
+      done) made none;
+  size = held.size ∙ sym fits.block_size ∙ ap (λ (h : Header). h.block_size) (sym header);
+}
+stays_base draft old new room (Err error) few holds held fits is faultless header made err none = record {
+  faultless = subst (λ told. ForSome told IsFaultless) (sym err.0) held.faultless;
+  bytes = subst (λ told. ForSome told (All (λ b. b < 256))) (sym err.0) held.bytes;
+  size = held.size ∙ ap (λ (h : Header). h.block_size) (sym err.1);
+}

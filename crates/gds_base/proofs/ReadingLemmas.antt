@@ -1,11 +1,9 @@
 -- Blocks of the image and of the image with a draft.
-use Rattle.std.proofs.Common.{◌≡◌, ℕ, ◌+◌, ◌<◌, ◌≤◌, ◌==◌, Bool, true, false, List, [], ◌∷◌, ◌++◌, length, take}
-use Rattle.std.proofs.Common.{refl, sym, ap}
-use Rattle.std.proofs.Common.{subst, ◌∙◌, arith, replicate, Bor, Option, None, Some}
+use Rattle.std.proofs.Common.{◌≡◌, ℕ, ◌+◌, ◌<◌, ◌≤◌, List, ◌++◌, length, take, sym, ap}
+use Rattle.std.proofs.Common.{◌∙◌, arith, replicate, Bor, Option, None, Some}
 use Rattle.std.specs.Option.{option_copied}
-use Rattle.std.specs.Prelude.{All, if◌then◌else◌, nat_lt}
-use Rattle.std.proofs.lemmas.Bool.{cond-false, cond-true, eqb-true, le-ltb, lt-ltb}
-use Rattle.std.proofs.lemmas.List.Elements.{All-head, All-tail}
+use Rattle.std.specs.Prelude.{if◌then◌else◌, nat_lt}
+use Rattle.std.proofs.lemmas.Bool.{cond-false, cond-true, le-ltb, lt-ltb}
 use Rattle.std.proofs.lemmas.List.{take_at}
 use Rattle.std.proofs.lemmas.Nat.{row_fits}
 use Rattle.host_model.specs.Units.{IsUnit}
@@ -13,11 +11,11 @@ use Rattle.gds_header.specs.declared.header.Header.{Header}
 use Rattle.gds_header.specs.Fields.{block_of, fields_of, zeros}
 use Rattle.gds_images.specs.Outcome.{IsWhole}
 use Rattle.gds_law.proofs.UnitLemmas.{length_at, place_at}
-use Rattle.gds_epoch.specs.Waiting.{WaitingUnit, waiting_bytes}
 use Rattle.gds_draft.specs.Draft.{DraftState, IsBlockOf, IsDraft, block_in}
 use Rattle.gds_draft.specs.Drafted.{drafted, or_block}
 use Rattle.gds_draft.specs.Laws.{IsDraftOf}
 use Rattle.gds_draft.proofs.DraftLemmas.{drafted_read}
+use Rattle.gds_draft.proofs.UnitLemmas.{found_has}
 
 -- A block of a whole database is a unit of it.
 pub block_is_unit : (image : List ℕ) (h : Header) (n size : ℕ) → IsWhole image → fields_of image ≡ h → n < h.total
@@ -53,23 +51,6 @@ behind_end image h g n bytes fields past is =
     is
     ∙ sym (cond-false (nat_lt n (fields_of image).total) _ _
     (le-ltb n (fields_of image).total (omega (arith, past, ap (λ (f : Header). f.total) fields))))
-
--- What holds of all units holds of one that is found.
-pub found_has : (P : WaitingUnit → Type 0) (units : List WaitingUnit) (unit : ℕ) (bytes : List ℕ) → All P units
-    → waiting_bytes units unit ≡ Some bytes → P (record { unit = unit; bytes = bytes })
-found_has P [] unit bytes all found = absurd (let no : None ≡ Some bytes = found in cc)
-found_has P (x ∷ units) unit bytes all found =
-    by (x.unit == unit) refl (found_has P units unit bytes (All-tail P x units all))
-  where
-    by : (t : Bool) → (x.unit == unit) ≡ t
-        → (waiting_bytes units unit ≡ Some bytes → P (record { unit = unit; bytes = bytes }))
-        → P (record { unit = unit; bytes = bytes })
-    by true same others =
-        let own : Some x.bytes ≡ Some bytes = sym (cond-true (x.unit == unit) _ _ same) ∙ found in
-        let is : x.bytes ≡ bytes = cc in
-        subst (λ k. P (record { unit = k; bytes = bytes })) (eqb-true x.unit unit same)
-        (subst (λ xs. P (record { unit = x.unit; bytes = xs })) is (All-head P x units all))
-    by false other others = others (sym (cond-false (x.unit == unit) _ _ other) ∙ found)
 
 module _ (image : List ℕ) (draft : DraftState) (is : IsDraftOf image draft) (n : ℕ) (low : n < draft.header.total)
   where

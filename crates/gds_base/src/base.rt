@@ -1,11 +1,13 @@
-ghost use Rattle.std.specs.Prelude.{◌≡◌, [], IfErr, IfOk, None};
+ghost use Rattle.std.specs.Prelude.{◌≡◌, ◌<◌, [], All, IfErr, IfOk, None};
 ghost use Rattle.std.specs.Option.{ForSome};
+ghost use Rattle.host_model.specs.Moments.{EachLeft};
 ghost use Rattle.gds_header.specs.Fields.{fields_of};
 ghost use Rattle.gds_header.specs.Kinds.{IsWithinLimits};
 ghost use Rattle.gds_base.specs.Drafting.{IsDraftFor};
 ghost use Rattle.gds_base.specs.Faultless.{IsFaultless};
 ghost use Rattle.gds_draft.specs.Laws.{IsDraftOf};
 ghost use Rattle.gds_images.specs.Outcome.{IsWhole};
+ghost use Rattle.gds_units.specs.Held.{IsRecoverable};
 ghost use Rattle.gds_units.specs.State.{image_of};
 
 use gds_draft::Draft;
@@ -39,7 +41,8 @@ impl<H: Host> Model for Base<H> {
 impl<H: Host> Base<H> {
     /// The base of an open database without any fault. Where memory runs out the units are handed back.
     pub fn adopt(alloc: Global, units: Units<H>) -> Result<Base<H>, Units<H>>
-        requires { ForSome (image_of units) IsFaultless }
+        requires faultless { ForSome (image_of units) IsFaultless }
+        requires bytes { ForSome (image_of units) (All (λ b. b < 256)) }
         ensures base { IfOk result (λ base. base ≡ units) }
         ensures back { IfErr result (λ back. back ≡ units) }
     {
@@ -53,18 +56,25 @@ impl<H: Host> Base<H> {
     pub fn into_units(self) -> Units<H>
         ensures units { result ≡ self }
         ensures faultless { ForSome (image_of self) IsFaultless }
+        ensures bytes { ForSome (image_of self) (All (λ b. b < 256)) }
     {
         let Base { units, .. } = self;
         units
     }
 
-    /// The header of the image, which has no fault.
+    /// The header of the image, which has no fault and is made of bytes.
+    ///
+    /// With it comes what is always known of a base, as of its units: the next opening finds some database of each
+    /// thing that a crash now may leave.
     pub fn header(&self) -> &Header
         ensures header { result.now ≡ self.now.header }
         ensures limits { IsWithinLimits self.now.header }
         ensures image { ForSome (image_of self.now) IsWhole }
         ensures fields { ForSome (image_of self.now) (λ image. fields_of image ≡ self.now.header) }
         ensures faultless { ForSome (image_of self.now) IsFaultless }
+        ensures bytes { ForSome (image_of self.now) (All (λ b. b < 256)) }
+        ensures found { ForSome (H.told self.now.host)
+            (λ _. EachLeft H.moment H.left_since self.now.host IsRecoverable) }
     {
         self.units.header()
     }

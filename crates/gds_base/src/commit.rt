@@ -58,6 +58,7 @@ impl<H: Host> Base<H> {
             return Err(BaseError::TnSpent);
         }
         self.hold_draft(&draft);
+        draft.hold_bytes();
         commit_units(&mut self.units, alloc, draft)
     }
 }

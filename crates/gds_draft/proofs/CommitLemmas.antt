@@ -77,8 +77,8 @@ module _ (image : List ℕ) (draft : DraftState) (is : IsDraftOf image draft) (f
   next_read = read_again h (h.tn + 1) is.draft_is.limits is.draft_is.reads (omega (arith, few))
 
   module _ (file : List ℕ) (made : IsCommitted draft image file) where
-    fields : fields_of file ≡ next_header h
-    fields = sym (fields_of-front 8192 file (lit≤ tt)) ∙ ap fields_of made.front ∙ next_read
+    pub committed_fields : fields_of file ≡ next_header h
+    committed_fields = sym (fields_of-front 8192 file (lit≤ tt)) ∙ ap fields_of made.front ∙ next_read
 
     labels : take 8 file ≡ take 8 (drafted draft image)
     labels =
@@ -105,7 +105,7 @@ module _ (image : List ℕ) (draft : DraftState) (is : IsDraftOf image draft) (f
       len = made.len ∙ sym read.len;
       label = labels;
       reserved = reserved;
-      fields = fields ∙ ap next_header (sym read.fields);
+      fields = committed_fields ∙ ap next_header (sym read.fields);
       blocks = λ n low.
           let within : n < h.total = omega (arith, low, ap (λ (g : Header). g.total) read.fields) in
           let number : h.tn ≡ (fields_of (drafted draft image)).tn = ap (λ (g : Header). g.tn) (sym read.fields) in
@@ -122,9 +122,9 @@ module _ (image : List ℕ) (draft : DraftState) (is : IsDraftOf image draft) (f
 
   is_one : (a b : List ℕ) → IsCommitted draft image a → IsCommitted draft image b → b ≡ a
   is_one a b first second =
-      same_file a b (first.len ∙ ap file_length_of (sym (fields a first))) (second.len ∙ sym first.len)
+      same_file a b (first.len ∙ ap file_length_of (sym (committed_fields a first))) (second.len ∙ sym first.len)
       (second.front ∙ sym first.front)
-      (λ n low. same_blocks a b first second n (omega (arith, low, ap (λ (g : Header). g.total) (fields a first)))
+      (λ n low. same_blocks a b first second n (omega (arith, low, ap (λ (g : Header). g.total) (committed_fields a first)))
       (block_in draft n) refl)
 
 pub committed_is_stamped : CommittedIsStamped

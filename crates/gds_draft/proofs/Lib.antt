@@ -6,3 +6,4 @@ pub mod UnitLemmas
 pub mod PutLemmas
 pub mod FaultLemmas
 pub mod CommitLemmas
+pub mod BytesLemmas

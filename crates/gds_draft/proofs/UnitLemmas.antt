@@ -1,6 +1,6 @@
 -- What a list of units has of each block with one more unit put among them, and how many units it has then.
 use Rattle.std.proofs.Common.{◌≡◌, ◌≢◌, ℕ, ◌+◌, ◌<◌, ◌≤◌, ◌==◌, Bool, true, false, List, [], ◌∷◌, length, refl, sym, ap}
-use Rattle.std.proofs.Common.{◌∙◌, arith}
+use Rattle.std.proofs.Common.{subst, ◌∙◌, arith}
 use Rattle.std.specs.Prelude.{if◌then◌else◌, nat_lt, Some, None}
 use Rattle.std.specs.List.{All}
 use Rattle.std.proofs.lemmas.Bool.{cond-false, cond-true, eq-eqb, eqb-false, eqb-true, ltb-false, ltb-true, ne_eqb}
@@ -98,3 +98,20 @@ as_many (x ∷ units) new old rising had =
         let no : None ≡ Some old =
         sym (not_above less) ∙ sym (cond-false (x.unit == new.unit) _ _ other) ∙ had in
         absurd cc
+
+-- What holds of all units holds of one that is found.
+pub found_has : (P : WaitingUnit → Type 0) (units : List WaitingUnit) (unit : ℕ) (bytes : List ℕ) → All P units
+    → waiting_bytes units unit ≡ Some bytes → P (record { unit = unit; bytes = bytes })
+found_has P [] unit bytes all found = absurd (let no : None ≡ Some bytes = found in cc)
+found_has P (x ∷ units) unit bytes all found =
+    by (x.unit == unit) refl (found_has P units unit bytes (All-tail P x units all))
+  where
+    by : (t : Bool) → (x.unit == unit) ≡ t
+        → (waiting_bytes units unit ≡ Some bytes → P (record { unit = unit; bytes = bytes }))
+        → P (record { unit = unit; bytes = bytes })
+    by true same others =
+        let own : Some x.bytes ≡ Some bytes = sym (cond-true (x.unit == unit) _ _ same) ∙ found in
+        let is : x.bytes ≡ bytes = cc in
+        subst (λ k. P (record { unit = k; bytes = bytes })) (eqb-true x.unit unit same)
+        (subst (λ xs. P (record { unit = x.unit; bytes = xs })) is (All-head P x units all))
+    by false other others = others (sym (cond-false (x.unit == unit) _ _ other) ∙ found)

@@ -1,9 +1,9 @@
 -- The file that a commit makes of an image and a draft.
-use Rattle.std.specs.Prelude.{◌≡◌, ◌+◌, ◌<◌, ◌^◌, ℕ, List, length, take, Some, None}
+use Rattle.std.specs.Prelude.{◌≡◌, ◌+◌, ◌<◌, ◌^◌, ℕ, All, List, length, take, Some, None}
 use Rattle.gds_header.specs.Fields.{block_of, file_length_of, header_bytes}
 use Rattle.gds_header.specs.declared.header.Header.{Header}
 use Rattle.gds_file.specs.Stamp.{IsStamped, with_number}
-use Rattle.gds_draft.specs.Draft.{DraftState, block_in}
+use Rattle.gds_draft.specs.Draft.{DraftState, HoldsBytes, block_in}
 use Rattle.gds_draft.specs.Drafted.{drafted}
 use Rattle.gds_draft.specs.Laws.{IsDraftOf}
 
@@ -32,3 +32,9 @@ abbrev pub CommittedIsOne : Type 0
 CommittedIsOne =
     (image : List ℕ) (draft : DraftState) (a b : List ℕ) → IsDraftOf image draft → draft.header.tn < 2 ^ 63
     → IsCommitted draft image a → IsCommitted draft image b → b ≡ a
+
+-- What a commit makes of bytes is bytes.
+abbrev pub CommittedIsBytes : Type 0
+CommittedIsBytes =
+    (image : List ℕ) (draft : DraftState) (file : List ℕ) → IsDraftOf image draft → draft.header.tn < 2 ^ 63
+    → HoldsBytes draft → All (λ b. b < 256) image → IsCommitted draft image file → All (λ b. b < 256) file

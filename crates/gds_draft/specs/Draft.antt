@@ -1,9 +1,9 @@
 -- A draft: what is to be changed of a database, its header and some of its blocks.
-use Rattle.std.specs.Prelude.{◌≡◌, ◌≤◌, ◌+◌, ℕ, All, List, Option, length}
+use Rattle.std.specs.Prelude.{◌≡◌, ◌≤◌, ◌+◌, ℕ, ◌<◌, All, List, Option, length}
 use Rattle.gds_header.specs.Fields.{fields_of, header_bytes}
 use Rattle.gds_header.specs.Kinds.{IsWithinLimits}
 use Rattle.gds_header.specs.declared.header.Header.{Header}
-use Rattle.gds_epoch.specs.Waiting.{IsRising, WaitingUnit, waiting_bytes, with_unit}
+use Rattle.gds_epoch.specs.Waiting.{HasBytes, IsRising, WaitingUnit, waiting_bytes, with_unit}
 
 -- its header, and the units that it has of blocks: that of block n has the number n + 1
 pub record DraftState : Type 0 where
@@ -30,3 +30,8 @@ pub record IsDraft (draft : DraftState) : Type 0 where
   pub reads : fields_of (header_bytes draft.header) ≡ draft.header
   pub rising : IsRising draft.units
   pub blocks : All (IsBlockOf draft.header) draft.units
+
+-- What it has are bytes: those of its blocks, and its master map.
+pub record HoldsBytes (draft : DraftState) : Type 0 where
+  pub blocks : All HasBytes draft.units
+  pub master : All (λ b. b < 256) draft.header.master

@@ -1,9 +1,9 @@
-ghost use Rattle.std.specs.Prelude.{◌≡◌, ◌<◌, ◌≤◌, ◌==◌, [], OnOk, OnErr, length};
+ghost use Rattle.std.specs.Prelude.{◌≡◌, ◌<◌, ◌≤◌, ◌==◌, [], All, OnOk, OnErr, length};
 ghost use Rattle.std.specs.Option.{option_copied};
 ghost use Rattle.gds_header.specs.Fields.{fields_of, header_bytes};
 ghost use Rattle.gds_header.specs.Kinds.{IsWithinLimits};
 ghost use Rattle.gds_epoch.specs.WaitingView.{units_of};
-ghost use Rattle.gds_draft.specs.Draft.{IsDraft, block_in, with_block};
+ghost use Rattle.gds_draft.specs.Draft.{HoldsBytes, IsDraft, block_in, with_block};
 
 use gds_epoch::{UnitBytes, Waiting};
 use gds_header::Header;
@@ -114,6 +114,14 @@ impl Draft {
         Ok(())
     }
 
+    /// Does nothing: what a draft has are bytes.
+    pub fn hold_bytes(&self)
+        ensures { HoldsBytes self.now }
+    {
+        self.blocks.hold_bytes();
+        are_bytes(&self.header.master);
+    }
+
     /// The draft's blocks as units of the file, in the order of their numbers.
     pub fn into_units(self) -> Vec<UnitBytes>
         ensures units { units_of result.items ≡ self.units }
@@ -126,4 +134,9 @@ impl Draft {
 /// Does nothing: the bytes of a header are read as that header again.
 fn reads_again(header: Header)
     ensures { fields_of (header_bytes header) ≡ header }
+{}
+
+/// Does nothing: each item of a slice of bytes is below 256.
+fn are_bytes(bytes: &[u8])
+    ensures { All (λ b. b < 256) bytes.now }
 {}

@@ -1,4 +1,4 @@
-ghost use Rattle.gds_draft.specs.Committed.{CommittedIsOne, CommittedIsStamped};
+ghost use Rattle.gds_draft.specs.Committed.{CommittedIsBytes, CommittedIsOne, CommittedIsStamped};
 ghost use Rattle.gds_draft.specs.Laws.{DraftedHeader, DraftedReads, NothingDrafted, SameByBlocks};
 ghost use Rattle.gds_draft.specs.PutLaws.{HeaderPut, PutIsThere, PutRewrites};
 
@@ -33,6 +33,11 @@ pub fn header_put()
 pub fn stamped_draft()
     ensures stamped { CommittedIsStamped }
     ensures one { CommittedIsOne }
+{}
+
+/// What a commit makes of bytes is bytes. What a draft has are bytes, as `Draft::hold_bytes` says.
+pub fn committed_bytes()
+    ensures { CommittedIsBytes }
 {}
 
 /// Files of one length that begin alike and have the same blocks are one.

@@ -6,6 +6,6 @@ mod laws;
 
 pub use draft::Draft;
 pub use laws::{
-    drafted_header, drafted_reads, header_put, nothing_drafted, put_rewrites, same_by_blocks,
-    stamped_draft,
+    committed_bytes, drafted_header, drafted_reads, header_put, nothing_drafted, put_rewrites,
+    same_by_blocks, stamped_draft,
 };

@@ -1,31 +1,30 @@
 -- One more line is answered.
-use Rattle.std.proofs.Common.{◌≡◌, ◌⊎◌, ℕ, ◌+◌, ◌^◌, ◌<◌, ◌≤◌, Bool, true, false, List, [], ◌∷◌, ◌++◌, length, take, Contains}
-use Rattle.std.proofs.Common.{Option, None, Some, MatchOption, arith, refl, sym, ap, subst, ◌∙◌, inl, inr, ⊎_elim}
+use Rattle.std.proofs.Common.{◌≡◌, ℕ, ◌+◌, ◌^◌, ◌<◌, ◌≤◌, List, [], ◌∷◌, ◌++◌, length, Contains}
+use Rattle.std.proofs.Common.{Option, None, Some, MatchOption, arith, refl, sym, ap, subst, ◌∙◌, inl, ⊎_elim}
 use Rattle.std.proofs.Common.{append-nil, append_assoc, take_at, length-append}
-use Rattle.std.proofs.lemmas.Grind.{flat_map-append, take-append-le}
+use Rattle.std.proofs.lemmas.Grind.{flat_map-append}
+use Rattle.std.proofs.lemmas.List.{take-append-le}
 use Rattle.std.proofs.lemmas.List.Elements.{Contains-push_cases}
 use Rattle.host_model.specs.Failures.{Failures}
 use Rattle.host_model.specs.Files.{Contents}
-use Rattle.host_model.specs.Moments.{EachLeft, LeavesOnly}
+use Rattle.host_model.specs.Moments.{EachLeft}
 use Rattle.host_model.specs.Told.{TellsOn}
 use Rattle.host_model.proofs.FrameLemmas.{TellsOn-some}
 use Rattle.host_model.proofs.MomentLemmas.{same_only, then_more}
 use Rattle.m_key.specs.Globals.{Change, Globals, after_all}
 use Rattle.m_key.specs.Node.{Node}
-use Rattle.gds_header.specs.Fields.{fields_of}
-use Rattle.gds_sound.specs.Stands.{StandsFor}
 use Rattle.gds_units.specs.Durable.{IsStored, KeepsOrStores}
 use Rattle.gds_units.specs.Reading.{OnlyRead}
 use Rattle.gds_units.specs.State.{UnitsState, WhereTold, image_of}
-use Rattle.gds_words.specs.Script.{Asks, Request}
+use Rattle.gds_words.specs.Script.{Asks}
 use Rattle.gds_words.specs.Script as asked
 use Rattle.gds_script.specs.declared.answer.Answer.{Answer}
 use Rattle.gds_script.specs.declared.answer.Answer.TheVariants.{Done, Epoch}
-use Rattle.gds_script.specs.Answer.{answer_line, answer_lines, answer_text}
+use Rattle.gds_script.specs.Answer.{answer_line, answer_lines}
 use Rattle.gds_script.specs.Finding.{FindsOne}
 use Rattle.gds_script.specs.Made.{AreMade, IsKept}
-use Rattle.gds_script.specs.Said.{Accepts, IsAfterPrefix, with_change}
-use Rattle.gds_script.specs.Script.{Answers, AnswersSet, Runs, Sets, State, Steps, refusal, start_of}
+use Rattle.gds_script.specs.Said.{IsAfterPrefix, with_change}
+use Rattle.gds_script.specs.Script.{Answers, AnswersSet, Runs, State, Steps, start_of}
 use Rattle.gds_run.specs.Progress.{Origin, Progress}
 use Rattle.gds_run.specs.Setting.{IsSetOrRefused, IsStateOf}
 use Rattle.gds_script.proofs.FindingLemmas.{found_wider, one_found_stored}
@@ -56,14 +55,14 @@ module _ {H : Type 0} (tells : H → Option Contents) (moment : H → ℕ) (left
     -- Its answer waits with the others.
     pub unchanged : (answer : Answer) → IsNoEpoch answer → Steps p.state line answer p.state
         → Progress tells moment left_since o rest base (waits ++ answer_line answer) changes
-    unchanged answer no step =
+    unchanged answer other step =
         let makes = step_made one line answer p.state p.state step in
         let none = no_change makes.change p.state.changes makes.changes_are in
         let more = append_assoc p.done.told p.done.waiting (answer ∷ []) in
         let lines = append_assoc p.done.told_lines p.done.waiting_lines (line ∷ []) in record {
           done = record p.done {
-              waiting_lines = p.done.waiting_lines ++ line ∷ [];
-              waiting = p.done.waiting ++ answer ∷ [];
+            waiting_lines = p.done.waiting_lines ++ line ∷ [];
+            waiting = p.done.waiting ++ answer ∷ [];
           };
           script_is = p.script_is
               ∙ sym (append_assoc (p.done.told_lines ++ p.done.waiting_lines) (line ∷ []) rest)
@@ -100,7 +99,7 @@ module _ {H : Type 0} (tells : H → Option Contents) (moment : H → ℕ) (left
               (o.said ++ answer_lines p.done.told) c
               (λ m kept. record {
                 kept = kept.kept;
-                durable = λ n has. ⊎_elim (kept.durable n) (λ is. absurd (no n is))
+                durable = λ n has. ⊎_elim (kept.durable n) (λ is. absurd (other n is))
                     (Contains-push_cases (p.done.told ++ p.done.waiting) answer (Epoch n)
                     (subst (λ all. Contains all (Epoch n)) (sym more) has));
                 few = kept.few;
@@ -131,12 +130,12 @@ module _ {H : Type 0} (tells : H → Option Contents) (moment : H → ℕ) (left
         let at = TellsOn-some (tells base.host) (tells new.host) (λ c d. d.said ≡ c.said) s.contents s.host_tells said
         in record {
           done = record {
-              told_lines = s.lines;
-              told = s.answers;
-              told_changes = s.made;
-              waiting_lines = line ∷ [];
-              waiting = answer ∷ [];
-              waiting_changes = more;
+            told_lines = s.lines;
+            told = s.answers;
+            told_changes = s.made;
+            waiting_lines = line ∷ [];
+            waiting = answer ∷ [];
+            waiting_changes = more;
           };
           script_is = s.script_is ∙ sym (append_assoc s.lines (line ∷ []) rest);
           state = after;
@@ -160,9 +159,9 @@ module _ {H : Type 0} (tells : H → Option Contents) (moment : H → ℕ) (left
     one_more : (answer : Answer) → IsNoEpoch answer → (more : List Change) (m : Globals)
         → IsKept o.map s.answers s.made (length s.made) m
         → IsKept o.map (s.answers ++ answer ∷ []) (s.made ++ more) (length s.made) m
-    one_more answer no more m kept = record {
+    one_more answer other more m kept = record {
       kept = kept.kept;
-      durable = λ n has. ⊎_elim (kept.durable n) (λ is. absurd (no n is))
+      durable = λ n has. ⊎_elim (kept.durable n) (λ is. absurd (other n is))
           (Contains-push_cases s.answers answer (Epoch n) has);
       few = kept.few;
       is = kept.is ∙ ap (after_all o.map) (sym (take-append-le kept.kept s.made more kept.few));

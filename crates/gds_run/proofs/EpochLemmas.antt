@@ -1,5 +1,6 @@
 -- Which answers are those of no epoch.
-use Rattle.std.proofs.Common.{◌≡◌, ℕ, Bool, true, false, List, length, Option, None, Some, MatchBool, MatchOption, ap, ltb}
+use Rattle.std.proofs.Common.{◌≡◌, ℕ, Bool, true, false, List, length, Option, None, Some, MatchBool, MatchOption, ap}
+use Rattle.std.proofs.Common.{ltb}
 use Rattle.std.proofs.Common.{◌∙◌, refl, subst}
 use Rattle.std.specs.FinMap.{get}
 use Rattle.std.proofs.lemmas.Bool.{false≢true}
@@ -18,7 +19,7 @@ IsOther (Epoch n) = ⊥
 IsOther answer = Unit {0}
 
 no_epoch : (answer : Answer) → IsOther answer → IsNoEpoch answer
-no_epoch answer no n is = subst IsOther is no
+no_epoch answer other n is = subst IsOther is other
 
 if_refuses : (answer : Answer) → refuses answer ≡ true → IsOther answer
 if_refuses (Epoch n) h = absurd (false≢true h)
@@ -26,7 +27,7 @@ if_refuses answer h = tt
 
 if_set : (node : Node) (value : List ℕ) (old new : State) (answer : Answer) → AnswersSet node value old answer new
     → IsOther answer
-if_set node value old new (Epoch n) no = absurd no
+if_set node value old new (Epoch n) false_it = absurd false_it
 if_set node value old new answer is = tt
 
 if_set_or_refused : (node : Node) (value : List ℕ) (old new : State) (answer : Answer) (refused : Option Answer)
@@ -45,8 +46,8 @@ set_no_epoch node value old new answer is =
     (refusal_refuses (fields_of old.image) (length (key_bytes node)) (length value)) is)
 
 if_told : (found : Option (List ℕ)) (answer : Answer) → TellsValue found answer → IsOther answer
-if_told (Some bytes) (Epoch n) no = absurd no
-if_told None (Epoch n) no = absurd no
+if_told (Some bytes) (Epoch n) false_it = absurd false_it
+if_told None (Epoch n) false_it = absurd false_it
 if_told found answer is = tt
 
 if_got : (node : Node) (old : State) (answer : Answer) (len : ℕ) (long : Bool)

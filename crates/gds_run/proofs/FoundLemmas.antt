@@ -12,10 +12,10 @@ one_text P text said c one is = record {
   map = one.map;
   has = one.has;
   finds = record {
-      image = one.finds.image;
-      recovers = one.finds.recovers;
-      stands = one.finds.stands;
-      said = is;
+    image = one.finds.image;
+    recovers = one.finds.recovers;
+    stands = one.finds.stands;
+    said = is;
   };
 }
 

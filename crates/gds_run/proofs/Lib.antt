@@ -6,4 +6,5 @@ pub mod FoundLemmas
 pub mod SettledLemmas
 pub mod SayingLemmas
 pub mod AnsweredLemmas
-pub mod EndingLemmas
+pub mod GoesLemmas
+pub mod NodeLemmas

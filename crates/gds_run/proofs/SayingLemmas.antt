@@ -1,22 +1,20 @@
 -- Answers that wait are said.
-use Rattle.std.proofs.Common.{◌≡◌, ℕ, ◌+◌, ◌^◌, ◌<◌, ◌≤◌, List, [], ◌∷◌, ◌++◌, length, take, Option, Some, Result, Ok, Err}
-use Rattle.std.proofs.Common.{arith, refl, sym, ap, subst, ◌∙◌, append-nil, append_assoc, flat_map, length-append}
+use Rattle.std.proofs.Common.{◌≡◌, ℕ, ◌+◌, ◌^◌, ◌<◌, ◌≤◌, List, [], ◌++◌, length, take, Option, Some}
+use Rattle.std.proofs.Common.{arith, sym, ap, subst, ◌∙◌, append-nil, append_assoc, length-append}
 use Rattle.std.proofs.lemmas.Grind.{flat_map-append}
 use Rattle.std.proofs.Math.Seq.{take-append-add}
-use Rattle.host_model.specs.Files.{Contents, Says, saying}
+use Rattle.host_model.specs.Files.{Contents, saying}
 use Rattle.host_model.specs.Moments.{EachLeft, LeavesOnly}
-use Rattle.host_model.specs.Told.{TellsOn}
-use Rattle.host_model.proofs.FrameLemmas.{TellsOn-some}
 use Rattle.host_model.proofs.MomentLemmas.{then_more, weaker}
-use Rattle.m_key.specs.Globals.{Change, Globals, after_all}
+use Rattle.m_key.specs.Globals.{Change, Globals}
 use Rattle.gds_units.specs.Durable.{KeepsSaying}
 use Rattle.gds_units.specs.State.{UnitsState, image_of}
 use Rattle.gds_script.specs.declared.answer.Answer.{Answer}
 use Rattle.gds_script.specs.Answer.{answer_line, answer_lines}
 use Rattle.gds_script.specs.Finding.{FindsOne}
-use Rattle.gds_script.specs.Made.{AreMade, IsKept}
+use Rattle.gds_script.specs.Made.{IsKept}
 use Rattle.gds_script.specs.Said.{IsAfterPrefix}
-use Rattle.gds_run.specs.Progress.{Answered, IsCutShort, Origin, Progress}
+use Rattle.gds_run.specs.Progress.{IsCutShort, Origin, Progress}
 use Rattle.gds_script.proofs.FindingLemmas.{FindsSaying, found_wider, one_still_saying}
 use Rattle.gds_script.proofs.MadeLemmas.{are_made_joined}
 use Rattle.gds_script.proofs.PrefixLemmas.{after_prefix}

@@ -1,12 +1,12 @@
 -- Lines that were answered, where all answers were said.
-use Rattle.std.proofs.Common.{◌≡◌, ◌⊎◌, ℕ, ◌^◌, ◌<◌, ◌≤◌, List, [], ◌∷◌, ◌++◌, length, take, Contains, Option, None, Some, arith}
-use Rattle.std.proofs.Common.{refl, sym, ap, subst, ◌∙◌, append-nil, append_assoc, take_all}
+use Rattle.std.proofs.Common.{◌≡◌, ℕ, ◌^◌, ◌<◌, ◌≤◌, List, [], ◌++◌, length, Contains, Option, Some, arith}
+use Rattle.std.proofs.Common.{refl, sym, ap, subst, ◌∙◌, append-nil, take_all}
 use Rattle.host_model.specs.Files.{Contents}
 use Rattle.host_model.specs.Moments.{EachLeft, LeavesOnly}
 use Rattle.host_model.specs.Told.{TellsOn}
 use Rattle.host_model.proofs.FrameLemmas.{TellsOn-some}
 use Rattle.host_model.proofs.MomentLemmas.{then_more, weaker}
-use Rattle.m_key.specs.Globals.{Change, Globals, after_all}
+use Rattle.m_key.specs.Globals.{Change, after_all}
 use Rattle.gds_sound.specs.Stands.{StandsFor}
 use Rattle.gds_units.specs.Durable.{KeepsOrStores}
 use Rattle.gds_units.specs.State.{UnitsState, WhereTold, image_of}
@@ -53,12 +53,12 @@ module _ {H : Type 0} (tells : H → Option Contents) (moment : H → ℕ) (left
       let no_answers = append-nil s.answers in
       let no_changes = append-nil s.made in record {
         done = record {
-            told_lines = s.lines;
-            told = s.answers;
-            told_changes = s.made;
-            waiting_lines = [];
-            waiting = [];
-            waiting_changes = [];
+          told_lines = s.lines;
+          told = s.answers;
+          told_changes = s.made;
+          waiting_lines = [];
+          waiting = [];
+          waiting_changes = [];
         };
         script_is = subst (λ lines. o.script ≡ lines ++ rest) (sym no_lines) s.script_is;
         state = s.state;

@@ -25,7 +25,11 @@ pub(crate) fn set_node<H: Host>(
     ensures leaves { LeavesAfterSet H.told H.moment H.left_since base.old base.new result }
     ensures ends { EndsAnswering H.told H.failures base.old base.new result }
 {
-    match set(alloc, base, reference, value) {
+    let _header = base.header();
+    base.hold_told();
+    let made = set(alloc, base, reference, value);
+    let header = base.header();
+    match made {
         Ok(()) => Ok(None),
         Err(BaseError::KeyTooLong) => Ok(Some(Answer::KeyTooLong {
             len: key_len(reference),
@@ -34,9 +38,7 @@ pub(crate) fn set_node<H: Host>(
             len: value.len() as u64,
         })),
         Err(BaseError::TnSpent) => Ok(Some(Answer::TnSpent)),
-        Err(BaseError::Full) => Ok(Some(Answer::Full {
-            free: base.header().free,
-        })),
+        Err(BaseError::Full) => Ok(Some(Answer::Full { free: header.free })),
         Err(BaseError::TooDeep) => Ok(Some(Answer::TooDeep)),
         Err(error) => Err(error.into()),
     }
@@ -53,6 +55,8 @@ pub(crate) fn value_of<H: Host>(
     ensures read { OnlyRead H.told H.moment H.failures H.left_since base.old base.new }
     ensures ends { EndsAnswering H.told H.failures base.old base.new result }
 {
+    let _header = base.header();
+    base.hold_told();
     match get(alloc, base, reference) {
         Ok(Some(value)) => Ok(Answer::Value { value }),
         Ok(None) => Ok(Answer::Undefined),

@@ -11,7 +11,7 @@ use crate::line::Line;
 use crate::node::{set_node, value_of};
 use gds_base::Base;
 use gds_script::{Answer, write_answer};
-use gds_words::ScriptLine;
+use gds_words::{ScriptLine, one_request};
 use host_model::Host;
 use m_key::Reference;
 use std::alloc::Global;
@@ -30,6 +30,7 @@ pub(crate) struct Session<H: Host> {
     pub(crate) waiting: Vec<u8>,
     /// How many changes were made.
     pub(crate) changes: u64,
+    ghost counted: { changes < 2 ^ 64 },
 }
 
 impl<H: Host> Session<H> {
@@ -51,7 +52,8 @@ impl<H: Host> Session<H> {
         requires few { self.old.changes < 2 ^ 63 }
         ensures ends { EndsAnswering H.told H.failures self.old.base self.new.base result }
         ensures changes { self.new.changes ≤ self.old.changes + 1 }
-        ensures run { (o : Origin H) (bytes : List ℕ) (rest : List (List ℕ)) → Means bytes line.now
+        ensures run { (o : Origin H) (bytes : List ℕ) (rest : List (List ℕ))
+            → Means bytes line.now
             → Progress H.told H.moment H.left_since o (bytes ∷ rest) self.old.base self.old.waiting.items
             self.old.changes
             → GoesOn H.told H.moment H.left_since o bytes rest self.new.base self.new.waiting.items self.new.changes
@@ -78,12 +80,14 @@ impl<H: Host> Session<H> {
         requires few { self.old.changes < 2 ^ 63 }
         ensures ends { EndsAnswering H.told H.failures self.old.base self.new.base result }
         ensures changes { self.new.changes ≤ self.old.changes + 1 }
-        ensures run { (o : Origin H) (bytes : List ℕ) (rest : List (List ℕ)) → Asks bytes (asked.set (node_of reference.now) value.now)
+        ensures run { (o : Origin H) (bytes : List ℕ) (rest : List (List ℕ))
+            → Asks bytes (asked.set (node_of reference.now) value.now)
             → Progress H.told H.moment H.left_since o (bytes ∷ rest) self.old.base self.old.waiting.items
             self.old.changes
             → GoesOn H.told H.moment H.left_since o bytes rest self.new.base self.new.waiting.items self.new.changes
             result }
     {
+        one_request();
         self.say_waiting()?;
         write_answer(alloc, &Answer::Done, &mut self.waiting)?;
         match set_node(alloc, &mut self.base, reference, value) {
@@ -107,27 +111,33 @@ impl<H: Host> Session<H> {
         requires few { self.old.changes < 2 ^ 63 }
         ensures ends { EndsAnswering H.told H.failures self.old.base self.new.base result }
         ensures changes { self.new.changes ≤ self.old.changes + 1 }
-        ensures run { (o : Origin H) (bytes : List ℕ) (rest : List (List ℕ)) → Asks bytes (asked.get (node_of reference.now))
+        ensures run { (o : Origin H) (bytes : List ℕ) (rest : List (List ℕ))
+            → Asks bytes (asked.get (node_of reference.now))
             → Progress H.told H.moment H.left_since o (bytes ∷ rest) self.old.base self.old.waiting.items
             self.old.changes
             → GoesOn H.told H.moment H.left_since o bytes rest self.new.base self.new.waiting.items self.new.changes
             result }
     {
+        one_request();
         let answer = value_of(alloc, &mut self.base, reference)?;
         Ok(write_answer(alloc, &answer, &mut self.waiting)?)
     }
 
-    fn answer_epoch(&mut self, alloc: Global) -> Result<(), RunError>
+    /// Makes all changes durable, and answers that.
+    pub(crate) fn answer_epoch(&mut self, alloc: Global) -> Result<(), RunError>
         requires going { self.old.base.stopped ≡ false }
         requires few { self.old.changes < 2 ^ 63 }
+        ensures stored { OnOk result (self.new.base.changed ≡ 0) }
         ensures ends { EndsAnswering H.told H.failures self.old.base self.new.base result }
         ensures changes { self.new.changes ≤ self.old.changes + 1 }
-        ensures run { (o : Origin H) (bytes : List ℕ) (rest : List (List ℕ)) → Asks bytes asked.epoch
+        ensures run { (o : Origin H) (bytes : List ℕ) (rest : List (List ℕ))
+            → Asks bytes asked.epoch
             → Progress H.told H.moment H.left_since o (bytes ∷ rest) self.old.base self.old.waiting.items
             self.old.changes
             → GoesOn H.told H.moment H.left_since o bytes rest self.new.base self.new.waiting.items self.new.changes
             result }
     {
+        one_request();
         self.say_waiting()?;
         self.base.epoch()?;
         let answer = Answer::Epoch {
@@ -141,12 +151,14 @@ impl<H: Host> Session<H> {
         requires few { self.old.changes < 2 ^ 63 }
         ensures ends { EndsAnswering H.told H.failures self.old.base self.new.base result }
         ensures changes { self.new.changes ≤ self.old.changes + 1 }
-        ensures run { (o : Origin H) (bytes : List ℕ) (rest : List (List ℕ)) → ((request : Request) → Asks bytes request → ⊥)
+        ensures run { (o : Origin H) (bytes : List ℕ) (rest : List (List ℕ))
+            → ((request : Request) → Asks bytes request → ⊥)
             → Progress H.told H.moment H.left_since o (bytes ∷ rest) self.old.base self.old.waiting.items
             self.old.changes
             → GoesOn H.told H.moment H.left_since o bytes rest self.new.base self.new.waiting.items self.new.changes
             result }
     {
+        one_request();
         Ok(write_answer(alloc, &Answer::BadLine, &mut self.waiting)?)
     }
 

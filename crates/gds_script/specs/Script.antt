@@ -14,7 +14,7 @@ use Rattle.gds_sound.specs.Stands.{StandsFor}
 use Rattle.gds_lines.specs.Lines.{given}
 use Rattle.gds_words.specs.Script.{Asks, Request, epoch}
 use Rattle.gds_words.specs.Script as asked
-use Rattle.gds_globals.specs.Ready.{IsHeaderAfter}
+use Rattle.gds_globals.specs.Ready.{DiffersInAtMost, IsHeaderAfter}
 use Rattle.gds_script.specs.declared.answer.Answer.{Answer}
 use Rattle.gds_script.specs.declared.answer.Answer.TheVariants.{BadLine, Done, Epoch, Full, KeyTooLong, TnSpent}
 use Rattle.gds_script.specs.declared.answer.Answer.TheVariants.{TooDeep, Undefined, Value, ValueTooLong}
@@ -44,7 +44,8 @@ refusal h key value =
     else None)))
 
 -- The node has the value then. The transaction number is one more, and the total that of the file grown by its
--- extension where fewer than 32 blocks were free. At most 32 blocks are used up, new maps left out.
+-- extension where fewer than 32 blocks were free. At most 32 blocks are used up, new maps left out, and where the total
+-- stays at most 64 units differ.
 pub record Sets (node : Node) (value : List ℕ) (old new : State) : Type 0 where
   pub place : Place
   pub node_is : place.node ≡ node
@@ -52,6 +53,7 @@ pub record Sets (node : Node) (value : List ℕ) (old new : State) : Type 0 wher
   pub stands : StandsFor new.image new.map
   pub header : IsHeaderAfter (fields_of old.image) (fields_of new.image)
   pub room : room_of (fields_of old.image) ≤ room_of (fields_of new.image) + 32
+  pub differs : DiffersInAtMost 64 old.image new.image
   pub changes_are : new.changes ≡ old.changes + 1
 
 -- A SET that isn't refused by the header is made. It may also be refused where its key belongs in a block that is as

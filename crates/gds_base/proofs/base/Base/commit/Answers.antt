@@ -40,8 +40,8 @@ invariant_of-self g c =
       ap (λ (s : UnitsState g.row.H.Denot). s.header.tn) c.self.view_is,
       c.requires.draft.tn,
     ) in
-    stays_base c.args.draft few c.self.inside.units c.commit_units.new.units c.self.inside.room.items
-    c.commit_units.result c.self.invariant
+    stays_base c.args.draft c.self.inside.units c.commit_units.new.units c.self.inside.room.items
+    c.commit_units.result few c.hold_bytes.ensures c.self.invariant
     (subst (λ (s : UnitsState g.row.H.Denot). IsDraftFor s.header c.args.draft) (sym c.self.view_is) c.requires.draft)
     (subst (λ (s : UnitsState g.row.H.Denot). ForSome (image_of s) (λ image. IsDraftOf image c.args.draft))
     (sym c.self.view_is) c.hold_draft.ensures)
