@@ -1,5 +1,5 @@
 -- How the ends of calls on a session and on the lines of an input compose.
-use Rattle.std.proofs.Common.{◌≡◌, ℕ, ◌≤◌, ◌<◌, List, Option, None, Some, refl, sym, subst, ◌∙◌, arith}
+use Rattle.std.proofs.Common.{◌≡◌, ℕ, ◌≤◌, ◌<◌, List, ◌++◌, Option, None, refl, sym, ap, ◌∙◌, append_assoc, arith}
 use Rattle.std.specs.Prelude.{Err, IfErr, Ok, Result}
 use Rattle.host_model.specs.Failures.{Failures, NeverFell, Rose}
 use Rattle.host_model.specs.Files.{Contents}
@@ -64,7 +64,7 @@ counts_then a b c k m n first second =
     TellsOn-then a b c (Counts k m) (Counts m n) (Counts k n)
     (λ x y z one two. record {
       given = (one.given.0 ++ two.given.0, one.given.1 ∙ ap (λ l. one.given.0 ++ l) two.given.1
-          ∙ sym (append-assoc one.given.0 two.given.0 z));
+          ∙ sym (append_assoc one.given.0 two.given.0 z));
       counted = two.counted ∙ one.counted;
     })
     first second

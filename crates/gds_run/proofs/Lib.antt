@@ -8,3 +8,4 @@ pub mod SayingLemmas
 pub mod AnsweredLemmas
 pub mod GoesLemmas
 pub mod NodeLemmas
+pub mod FinishLemmas

@@ -1,4 +1,4 @@
-ghost use Rattle.std.specs.Prelude.{◌≡◌, ◌<◌, ◌≤◌, ◌∷◌, [], ℕ, List, false, IfOk, IsFalse, OnOk, OnSome, Some, codes};
+ghost use Rattle.std.specs.Prelude.{◌≡◌, ◌^◌, ◌<◌, ◌≤◌, ◌∷◌, [], ℕ, List, false, IfOk, IsFalse, OnOk, OnSome, Some, codes};
 ghost use Rattle.std.specs.Option.{ForSome};
 ghost use Rattle.host_model.specs.Told.{TellsOn};
 ghost use Rattle.gds_lines.specs.declared.TheConstants.{INPUT_LIMIT};
@@ -12,7 +12,7 @@ use crate::error::RunError;
 use crate::line::{Line, read_line};
 use crate::session::Session;
 use gds_lines::Lines;
-use gds_words::ScriptLine;
+use gds_words::one_request;
 use host_model::{Host, Source};
 use std::alloc::Global;
 
@@ -63,7 +63,7 @@ fn answer_lines<H: Host, I: Source>(
         → GoesThrough H.told H.moment H.left_since o (codes "EPOCH" ∷ []) session.new.base session.new.waiting.items
         session.new.changes result }
     ensures going { OnOk result (session.new.base.stopped ≡ false) }
-    ensures few { OnOk result (session.new.changes ≤ INPUT_LIMIT) }
+    ensures few { OnOk result (session.new.changes < 2 ^ 63) }
     ensures ends { EndsScript H.told H.failures session.old.base session.new.base lines.old lines.new result }
 {
     while let Some(line) = next_line(alloc, session, lines)? {
@@ -105,14 +105,17 @@ fn next_line<H: Host, I: Source>(
 /// The epoch behind the last line.
 fn finish<H: Host>(alloc: Global, session: &mut Session<H>) -> Result<(), RunError>
     requires going { session.old.base.stopped ≡ false }
-    requires few { session.old.changes ≤ INPUT_LIMIT }
+    requires few { session.old.changes < 2 ^ 63 }
     ensures run { (o : Origin H)
         → Progress H.told H.moment H.left_since o (codes "EPOCH" ∷ []) session.old.base session.old.waiting.items
         session.old.changes
         → Ends H.told H.moment H.left_since o session.new.base.host result }
     ensures ends { EndsAnswering H.told H.failures session.old.base session.new.base result }
 {
-    session.answer(alloc, &Line::Asks(ScriptLine::Epoch))?;
+    one_request();
+    session.answer_epoch(alloc)?;
     session.say_waiting()?;
-    Ok(session.base.shorten()?)
+    session.base.shorten()?;
+    session.base.hold_told();
+    Ok(())
 }

@@ -4,7 +4,7 @@ use Rattle.std.proofs.Common.{zero, suc, ◌<◌, get_or, Some, MatchBool, Match
 use Rattle.std.proofs.Common.{inl, inr, ⊎_elim, ltb}
 use Rattle.std.specs.FinMap.{get}
 use Rattle.std.proofs.lemmas.Bool.{false≢true}
-use Rattle.std.proofs.lemmas.List.Elements.{Contains-append_cases}
+use Rattle.std.proofs.lemmas.List.Elements.{Contains-append_cases, Contains-push}
 use Rattle.m_key.specs.Key.{key_bytes}
 use Rattle.m_key.specs.Node.{Node}
 use Rattle.gds_header.specs.Fields.{fields_of}
@@ -24,6 +24,59 @@ runs_more a b c (first ∷ lines) (reply ∷ answers) line answer run step =
     (run.0, run.1, runs_more run.0 b c lines answers line answer run.2 step)
 runs_more a b c [] (reply ∷ answers) line answer run step = absurd run
 runs_more a b c (first ∷ lines) [] line answer run step = absurd run
+
+-- the last of some lines, with its answer
+pub record EndsRun (a b : State) (lines : List (List ℕ)) (line : List ℕ) (answers : List Answer) : Type 0 where
+  pub front : List Answer
+  pub last : Answer
+  pub mid : State
+  pub answers_are : answers ≡ front ++ last ∷ []
+  pub runs : Runs a lines front mid
+  pub step : Steps mid line last b
+
+pub runs_last : (a b : State) (lines : List (List ℕ)) (line : List ℕ) (answers : List Answer)
+    → Runs a (lines ++ line ∷ []) answers b → EndsRun a b lines line answers
+runs_last a b [] line [] run = absurd run
+runs_last a b [] line (answer ∷ []) run = record {
+  front = [];
+  last = answer;
+  mid = a;
+  answers_are = refl;
+  runs = refl;
+  step = subst (λ s. Steps a line answer s) (sym run.2) run.1;
+}
+runs_last a b [] line (answer ∷ (other ∷ answers)) run = absurd run.2
+runs_last a b (first ∷ lines) line [] run = absurd run
+runs_last a b (first ∷ lines) line (answer ∷ answers) run =
+    let rest = runs_last run.0 b lines line answers run.2 in record {
+      front = answer ∷ rest.front;
+      last = rest.last;
+      mid = rest.mid;
+      answers_are = ap (λ all. answer ∷ all) rest.answers_are;
+      runs = (run.0, run.1, rest.runs);
+      step = rest.step;
+    }
+
+-- An EPOCH as the last line tells the number of changes.
+epoch_step : OneRequest → (a b : State) (line : List ℕ) (answer : Answer) → Asks line epoch → Steps a line answer b
+    → answer ≡ Epoch b.changes
+epoch_step one a b line answer asks =
+    ⊎_elim
+    (λ (is : (request : Request) × Asks line request × Answers request a answer b).
+    let same : is.0 ≡ epoch = one line is.0 epoch is.1 asks in
+    let ends = subst (λ request. Answers request a answer b) same is.2 in
+    ends.0 ∙ ap (λ (s : State). Epoch s.changes) (sym ends.1))
+    (λ (none : ((request : Request) → Asks line request → ⊥) × (answer ≡ BadLine) × (b ≡ a)).
+    absurd (none.0 epoch asks))
+
+pub last_epoch : OneRequest → (a b : State) (lines : List (List ℕ)) (line : List ℕ) (answers : List Answer)
+    → Asks line epoch → Runs a (lines ++ line ∷ []) answers b → Contains answers (Epoch b.changes)
+last_epoch one a b lines line answers asks run =
+    let ends = runs_last a b lines line answers run in
+    let last = epoch_step one ends.mid b line ends.last asks ends.step in
+    subst (λ all. Contains all (Epoch b.changes))
+    (sym (ends.answers_are ∙ ap (λ answer. ends.front ++ answer ∷ []) last))
+    (Contains-push ends.front (Epoch b.changes))
 
 -- ---- the numbers of changes that EPOCH lines tell
 

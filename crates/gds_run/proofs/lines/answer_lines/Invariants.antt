@@ -13,13 +13,13 @@ invariant-loop-line g l = record {
   few : l.session.changes ≤ l.lines.passed;
   short : l.lines.passed ≤ INPUT_LIMIT;
   taken : l.lines.taken ≤ INPUT_LIMIT;
-  run : (o : Origin g.row.H.Denot) (text : List ℕ) → l.fn.lines.now.left ≡ Some text
-      → Progress g.H.Host.told g.H.Host.moment g.H.Host.left_since o (script_of text) l.fn.session.now.base
-      l.fn.session.now.waiting.items l.fn.session.now.changes
+  run : (o : Origin g.row.H.Denot) (text : List ℕ) → l.fn.lines.left ≡ Some text
+      → Progress g.H.Host.told g.H.Host.moment g.H.Host.left_since o (script_of text) l.fn.session.base
+      l.fn.session.waiting.items l.fn.session.changes
       → (left : List ℕ) × (l.lines.left ≡ Some left) × Progress g.H.Host.told g.H.Host.moment g.H.Host.left_since o
       (script_of left) l.session.base l.session.waiting.items l.session.changes;
-  ends : EndsScript g.H.Host.told g.H.Host.failures l.fn.session.now.base l.session.base l.fn.lines.now l.lines
-      (Ok {A = Unit {0}} tt);
+  ends : EndsScript {T = Unit {0}} g.H.Host.told g.H.Host.failures l.fn.session.base l.session.base l.fn.lines l.lines
+      (Ok tt);
 }
 
 abbrev pub decreases-loop-line : goal.decreases-loop-line
