@@ -1,0 +1,10 @@
+pub mod OpeningLemmas
+pub mod EndsLemmas
+pub mod ThroughLemmas
+pub mod EpochLemmas
+pub mod FoundLemmas
+pub mod SettledLemmas
+pub mod SayingLemmas
+pub mod AnsweredLemmas
+pub mod GoesLemmas
+pub mod NodeLemmas

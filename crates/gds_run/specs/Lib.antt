@@ -1,0 +1,6 @@
+pub mod Errors
+pub mod Setting
+pub mod Progress
+pub mod Line
+pub mod Ending
+pub mod Run

@@ -1,0 +1,10 @@
+pub mod TextLemmas
+pub mod WholeLineLemmas
+pub mod StepLemmas
+pub mod RunLemmas
+pub mod MadeLemmas
+pub mod ScriptLemmas
+pub mod KeptLemmas
+pub mod AnswerLineLemmas
+pub mod PrefixLemmas
+pub mod FindingLemmas
