@@ -11,7 +11,11 @@ use Rattle.gds_cli.specs.declared.status.Status.{Status}
 use Rattle.gds_cli.specs.declared.status.Status.TheVariants as ended
 use Rattle.gds_cli.specs.Status.{HasCause, MayEnd, is_break}
 use Rattle.gds_cli.specs.Answer.{Due, Ends, EndsAs, ExtractDue, LeavesFiles, Replies, Reply, SameFiles}
-use Rattle.gds_cli.specs.Answer.{header_with}
+use Rattle.gds_cli.specs.Answer.{IsRefusedOrEmpty, Leaves, created, header_with}
+use Rattle.std.specs.Option.{ForSome}
+use Rattle.host_model.specs.Moments.{EachLeft, LeavesOnly}
+use Rattle.gds_create.specs.Newborn.{IsEmpty}
+use Rattle.gds_header.specs.declared.header.Header.{Header}
 use Rattle.gds_cli.specs.Create.{CreateEnds}
 use Rattle.gds_words.specs.Words.{MakesHeader}
 use Rattle.gds_header.specs.Kinds.{IsWithinLimits}
@@ -76,17 +80,31 @@ extract_ends told now command stamp text status is same says input =
 
 -- CREATE, whose header has the numbers of the words
 module _ (command : Result Command BadWords) (block key value alloc ext limit : ℕ)
-    (is : command ≡ Ok (Create block key value alloc ext limit)) where
-  pub header_limits : IfOk command MakesHeader → IsWithinLimits (header_with block key value alloc ext limit)
+    (is : command ≡ Ok (Create block key value alloc ext limit)) (h : Header)
+    (same : h ≡ header_with block key value alloc ext limit) where
+  pub header_limits : IfOk command MakesHeader → IsWithinLimits h
   header_limits makes =
       let P : Result Command BadWords → Type 0 = λ k. IfOk k MakesHeader in
-      subst P is makes (header_with block key value alloc ext limit) refl refl refl refl refl refl
+      subst IsWithinLimits (sym same)
+      (subst P is makes (header_with block key value alloc ext limit) refl refl refl refl refl refl)
 
-  pub create_ends : (told now : Option Contents) (status : Status)
-      → TellsOn told now (CreateEnds (header_with block key value alloc ext limit) status)
+  pub create_ends : (told now : Option Contents) (status : Status) → TellsOn told now (CreateEnds h status)
       → (input : List ℕ) → TellsOn told now (Ends command input status)
   create_ends told now status ends input =
-      let P : Result Command BadWords → Type 0 = λ k. TellsOn told now (Ends k input status) in subst P (sym is) ends
+      let P : Result Command BadWords → Type 0 = λ k. TellsOn told now (Ends k input status) in
+      let Q : Header → Type 0 = λ x. TellsOn told now (CreateEnds x status) in
+      subst P (sym is) (subst Q same ends)
+
+  pub create_leaves : {H : Type 0} {moment : H → ℕ} {left_since : H → ℕ → Contents → Type 0} (host now : H)
+      (told : Option Contents)
+      → ForSome told (λ before. EachLeft moment left_since host IsEmpty
+      → LeavesOnly moment left_since host now (IsRefusedOrEmpty (created h.total).text before))
+      → ForSome told (Leaves moment left_since command host now)
+  create_leaves {H} {moment} {left_since} host now told leaves before tells =
+      let P : Result Command BadWords → Type 0 = λ k. Leaves moment left_since k host now before in
+      let Q : Header → Type 0 = λ x. EachLeft moment left_since host IsEmpty
+      → LeavesOnly moment left_since host now (IsRefusedOrEmpty (created x.total).text before) in
+      subst P (sym is) (subst Q same (leaves before tells))
 
 -- ---- where nothing failed
 

@@ -9,12 +9,11 @@ ghost use Rattle.gds_cli.specs.Status.{HasCause, MayEnd, TouchesNoFile};
 ghost use Rattle.gds_cli.specs.Answer.{Due, Ends, IsGiven, Leaves, Replies, bad_words};
 ghost use Rattle.gds_cli.specs.Saying.{OnlySays};
 
-use crate::create::create;
+use crate::create::{create, header_with};
 use crate::extract::extract;
 use crate::fault_list::tell_faults;
 use crate::saying::say;
 use crate::status::Status;
-use gds_header::Header;
 use gds_words::{BadWords, Command, read_words};
 use host_model::{Host, Source};
 use std::alloc::Global;
@@ -101,17 +100,7 @@ fn answer<H: Host>(alloc: Global, command: Result<Command, BadWords>, host: H) -
                 limit,
             },
         ) => {
-            let header = Header {
-                block_size: block,
-                total,
-                free: 0,
-                extension: ext,
-                limit,
-                key_max: key,
-                value_max: value,
-                tn: 0,
-                master: [0; 256],
-            };
+            let header = header_with(block, key, value, total, ext, limit);
             let status = create(alloc, &mut host, &header);
             (status, host)
         }

@@ -1,3 +1,4 @@
+ghost use Rattle.std.specs.Prelude.{◌≡◌};
 ghost use Rattle.host_model.specs.Frames.{WasUsed};
 ghost use Rattle.host_model.specs.Moments.{EachLeft, LeavesOnly};
 ghost use Rattle.std.specs.Option.{ForSome};
@@ -5,7 +6,7 @@ ghost use Rattle.gds_header.specs.Kinds.{IsWithinLimits};
 ghost use Rattle.gds_create.specs.Newborn.{IsEmpty};
 ghost use Rattle.gds_cli.specs.Status.{HasCause};
 ghost use Rattle.gds_cli.specs.Create.{CreateEnds, IsCreateStatus};
-ghost use Rattle.gds_cli.specs.Answer.{IsRefusedOrEmpty, created};
+ghost use Rattle.gds_cli.specs.Answer.{IsRefusedOrEmpty, created, header_with};
 
 use crate::saying::say;
 use crate::status::Status;
@@ -34,5 +35,29 @@ pub(crate) fn create<H: Host>(alloc: Global, host: &mut H, header: &Header) -> S
         Err(CreateError::Memory) => Status::Memory,
         Err(CreateError::ReadFault) => Status::ReadFault,
         Err(CreateError::WriteFault) => Status::WriteFault,
+    }
+}
+
+/// A header with these numbers, which are all that a new database takes of it.
+pub(crate) fn header_with(
+    block_size: u32,
+    key_max: u32,
+    value_max: u32,
+    total: u32,
+    extension: u32,
+    limit: u32,
+) -> Header
+    ensures { result ≡ header_with block_size key_max value_max total extension limit }
+{
+    Header {
+        block_size,
+        total,
+        free: 0,
+        extension,
+        limit,
+        key_max,
+        value_max,
+        tn: 0,
+        master: [0; 256],
     }
 }
