@@ -10,6 +10,7 @@ use crate::LinesError;
 use crate::ahead::Ahead;
 use crate::finding::find_line;
 use host_model::Source;
+use memchr::memchr;
 use std::alloc::Global;
 use std::marker::Model;
 
@@ -86,6 +87,12 @@ impl<I: Source> Lines<I> {
             Some(span) => Ok(Some(self.ahead.part(span))),
             None => Ok(None),
         }
+    }
+
+    /// Whether a line was taken whole from the source and not given yet, so that the next one asks the source for
+    /// nothing.
+    pub fn has_line(&self) -> bool {
+        memchr(b'\n', self.ahead.held()).is_some()
     }
 
     /// The source. Bytes that were taken from it and not given are lost.

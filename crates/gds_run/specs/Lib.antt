@@ -1,0 +1,4 @@
+pub mod Progress
+pub mod Line
+pub mod Ending
+pub mod Run

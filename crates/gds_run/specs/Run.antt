@@ -1,0 +1,67 @@
+-- What a run says, what it leaves of the files, and what a crash leaves on the way.
+use Rattle.std.specs.Prelude.{◌≡◌, ◌⊎◌, ℕ, ◌<◌, ◌≤◌, List, [], ◌++◌, take, Option, Some}
+use Rattle.std.specs.Option.{ForSome}
+use Rattle.host_model.specs.Failures.{counted}
+use Rattle.host_model.specs.Files.{Contents}
+use Rattle.host_model.specs.Moments.{EachSince}
+use Rattle.host_model.specs.Told.{TellsOn}
+use Rattle.m_key.specs.Globals.{Globals}
+use Rattle.gds_base.specs.Finds.{Finds}
+use Rattle.gds_images.specs.Recovered.{recovered}
+use Rattle.gds_sound.specs.Stands.{StandsFor}
+use Rattle.gds_script.specs.declared.answer.Answer.{Answer}
+use Rattle.gds_script.specs.Answer.{answer_lines}
+use Rattle.gds_script.specs.Said.{IsAfterPrefix}
+use Rattle.gds_script.specs.Script.{Runs, State, script_of, start_of}
+
+-- An opening finds this image of the files, which stands for this map.
+pub record Opens (c : Contents) (image : List ℕ) (m : Globals) : Type 0 where
+  pub recovers : recovered c.db c.images ≡ Some image
+  pub stands : StandsFor image m
+
+-- All lines of the input were answered, and what was said are the answers. The database file is the last image, and the
+-- next opening finds the map for which that stands.
+pub record IsRun (input : List ℕ) (before now : Contents) : Type 0 where
+  pub image : List ℕ
+  pub map : Globals
+  pub opens : Opens before image map
+  pub answers : List Answer
+  pub state : State
+  pub runs : Runs (start_of image map) (script_of input) answers state
+  pub said : now.said ≡ before.said ++ answer_lines answers
+  pub file : now.db ≡ state.image
+  pub stands : StandsFor state.image state.map
+  pub finds : Finds state.map now.said now
+
+-- Some first lines were answered, and some first bytes of the answers were said.
+pub record IsBrokenRun (input : List ℕ) (before now : Contents) : Type 0 where
+  pub image : List ℕ
+  pub map : Globals
+  pub opens : Opens before image map
+  pub lines : List (List ℕ)
+  pub rest : List (List ℕ)
+  pub script_is : script_of input ≡ lines ++ rest
+  pub answers : List Answer
+  pub state : State
+  pub runs : Runs (start_of image map) lines answers state
+  pub n : ℕ
+  pub said : now.said ≡ before.said ++ take n (answer_lines answers)
+
+-- Nothing was said, or the run was broken off.
+abbrev pub Breaks : List ℕ → Contents → Contents → Type 0
+Breaks input before now = (now.said ≡ before.said) ⊎ IsBrokenRun input before now
+
+module _ {H : Type 0} (moment : H → ℕ) (left_since : H → ℕ → Contents → Type 0) where
+  -- Since the first two calls, which make both files stable, each crash leaves files with P, and until then nothing
+  -- new. Where there was no third call nothing is said of what comes after the second.
+  pub record LeavesSinceBarrier (old new : H) (P : Contents → Type 0) : Type 0 where
+    pub later : moment old ≤ moment new
+    pub since : moment old < moment new → counted (counted (moment old)) < moment new
+        → (t : ℕ) → counted (counted (moment old)) ≤ t → EachSince moment left_since new t P
+    pub before : (t : ℕ) (c : Contents) → t ≤ moment old → left_since new t c → left_since old t c ⊎ P c
+
+  -- Where an opening found a map before, each crash leaves it after a prefix of the answered changes.
+  abbrev pub LeavesPrefixes : List ℕ → Contents → H → H → Type 0
+  LeavesPrefixes input before old new =
+      (image : List ℕ) (m : Globals) → Opens before image m
+      → LeavesSinceBarrier old new (IsAfterPrefix (script_of input) m before.said)

@@ -1,0 +1,211 @@
+ghost use Rattle.std.specs.Prelude.{◌≡◌, ◌^◌, ◌+◌, ◌<◌, ◌≤◌, ◌∷◌, [], ℕ, List, false, Err, OnErr, OnOk};
+ghost use Rattle.m_key.specs.Reference.{node_of};
+ghost use Rattle.gds_words.specs.Script.{Asks, Request};
+ghost use Rattle.gds_words.specs.Script.Request as asked;
+ghost use Rattle.gds_run.specs.Ending.{EndsAnswering};
+ghost use Rattle.gds_run.specs.Line.{Means};
+ghost use Rattle.gds_run.specs.Progress.{GoesOn, Origin, Progress, Says};
+
+use crate::error::RunError;
+use crate::line::Line;
+use gds_base::{Base, BaseError};
+use gds_globals::{get, set};
+use gds_script::{Answer, write_answer};
+use gds_words::ScriptLine;
+use host_model::Host;
+use m_key::{Reference, key_len};
+use std::alloc::Global;
+
+/// How many bytes of answers wait at most before they are said.
+const PIECE: usize = 65_536;
+
+/// An open database on which lines are answered.
+///
+/// Answers wait, so that many are said by one call of the host. They are said before anything that may make a change
+/// durable, so that no change is durable whose answer wasn't said.
+#[derive(Drop)]
+pub(crate) struct Session<H: Host> {
+    pub(crate) base: Base<H>,
+    /// The lines of the answers that aren't said yet.
+    pub(crate) waiting: Vec<u8>,
+    /// How many changes were made.
+    pub(crate) changes: u64,
+}
+
+impl<H: Host> Session<H> {
+    pub(crate) fn new(alloc: Global, base: Base<H>) -> Session<H>
+        ensures base { result.base ≡ base }
+        ensures waiting { result.waiting.items ≡ [] }
+        ensures changes { result.changes ≡ 0 }
+    {
+        Session {
+            base,
+            waiting: Vec::new(alloc),
+            changes: 0,
+        }
+    }
+
+    /// Answers a line.
+    pub(crate) fn answer(&mut self, alloc: Global, line: &Line) -> Result<(), RunError>
+        requires going { self.old.base.stopped ≡ false }
+        requires few { self.old.changes < 2 ^ 63 }
+        ensures ends { EndsAnswering H.told H.failures self.old.base self.new.base result }
+        ensures changes { self.new.changes ≤ self.old.changes + 1 }
+        ensures run { (o : Origin H) (bytes : List ℕ) (rest : List (List ℕ)) → Means bytes line.now
+            → Progress H.told H.moment H.left_since o (bytes ∷ rest) self.old.base self.old.waiting.items
+            self.old.changes
+            → GoesOn H.told H.moment H.left_since o bytes rest self.new.base self.new.waiting.items self.new.changes
+            result }
+    {
+        match line {
+            Line::Asks(ScriptLine::Set { reference, value }) => {
+                self.answer_set(alloc, reference, value)
+            }
+            Line::Asks(ScriptLine::Get { reference }) => self.answer_get(alloc, reference),
+            Line::Asks(ScriptLine::Epoch) => self.answer_epoch(alloc),
+            Line::Bad => self.answer_bad_line(alloc),
+        }
+    }
+
+    /// The answer of a SET is there before the change is made, so that none is made whose answer finds no memory.
+    fn answer_set(
+        &mut self,
+        alloc: Global,
+        reference: &Reference,
+        value: &[u8],
+    ) -> Result<(), RunError>
+        requires going { self.old.base.stopped ≡ false }
+        requires few { self.old.changes < 2 ^ 63 }
+        ensures ends { EndsAnswering H.told H.failures self.old.base self.new.base result }
+        ensures changes { self.new.changes ≤ self.old.changes + 1 }
+        ensures run { (o : Origin H) (bytes : List ℕ) (rest : List (List ℕ)) → Asks bytes (asked.set (node_of reference.now) value.now)
+            → Progress H.told H.moment H.left_since o (bytes ∷ rest) self.old.base self.old.waiting.items
+            self.old.changes
+            → GoesOn H.told H.moment H.left_since o bytes rest self.new.base self.new.waiting.items self.new.changes
+            result }
+    {
+        self.say_waiting()?;
+        write_answer(alloc, &Answer::Done, &mut self.waiting)?;
+        let answer = set_node(alloc, &mut self.base, reference, value);
+        if let Ok(Answer::Done) = answer {
+            self.changes += 1;
+            return Ok(());
+        }
+        self.waiting.clear();
+        let answer = answer?;
+        Ok(write_answer(alloc, &answer, &mut self.waiting)?)
+    }
+
+    fn answer_get(&mut self, alloc: Global, reference: &Reference) -> Result<(), RunError>
+        requires going { self.old.base.stopped ≡ false }
+        requires few { self.old.changes < 2 ^ 63 }
+        ensures ends { EndsAnswering H.told H.failures self.old.base self.new.base result }
+        ensures changes { self.new.changes ≤ self.old.changes + 1 }
+        ensures run { (o : Origin H) (bytes : List ℕ) (rest : List (List ℕ)) → Asks bytes (asked.get (node_of reference.now))
+            → Progress H.told H.moment H.left_since o (bytes ∷ rest) self.old.base self.old.waiting.items
+            self.old.changes
+            → GoesOn H.told H.moment H.left_since o bytes rest self.new.base self.new.waiting.items self.new.changes
+            result }
+    {
+        let answer = value_of(alloc, &mut self.base, reference)?;
+        Ok(write_answer(alloc, &answer, &mut self.waiting)?)
+    }
+
+    fn answer_epoch(&mut self, alloc: Global) -> Result<(), RunError>
+        requires going { self.old.base.stopped ≡ false }
+        requires few { self.old.changes < 2 ^ 63 }
+        ensures ends { EndsAnswering H.told H.failures self.old.base self.new.base result }
+        ensures changes { self.new.changes ≤ self.old.changes + 1 }
+        ensures run { (o : Origin H) (bytes : List ℕ) (rest : List (List ℕ)) → Asks bytes asked.epoch
+            → Progress H.told H.moment H.left_since o (bytes ∷ rest) self.old.base self.old.waiting.items
+            self.old.changes
+            → GoesOn H.told H.moment H.left_since o bytes rest self.new.base self.new.waiting.items self.new.changes
+            result }
+    {
+        self.say_waiting()?;
+        self.base.epoch()?;
+        let answer = Answer::Epoch {
+            changes: self.changes,
+        };
+        Ok(write_answer(alloc, &answer, &mut self.waiting)?)
+    }
+
+    fn answer_bad_line(&mut self, alloc: Global) -> Result<(), RunError>
+        requires going { self.old.base.stopped ≡ false }
+        requires few { self.old.changes < 2 ^ 63 }
+        ensures ends { EndsAnswering H.told H.failures self.old.base self.new.base result }
+        ensures changes { self.new.changes ≤ self.old.changes + 1 }
+        ensures run { (o : Origin H) (bytes : List ℕ) (rest : List (List ℕ)) → ((request : Request) → Asks bytes request → ⊥)
+            → Progress H.told H.moment H.left_since o (bytes ∷ rest) self.old.base self.old.waiting.items
+            self.old.changes
+            → GoesOn H.told H.moment H.left_since o bytes rest self.new.base self.new.waiting.items self.new.changes
+            result }
+    {
+        Ok(write_answer(alloc, &Answer::BadLine, &mut self.waiting)?)
+    }
+
+    /// Says the answers that wait.
+    pub(crate) fn say_waiting(&mut self) -> Result<(), RunError>
+        ensures base { self.new.base ≡ record self.old.base { host = self.new.base.host } }
+        ensures changes { self.new.changes ≡ self.old.changes }
+        ensures empty { OnOk result (self.new.waiting.items ≡ []) }
+        ensures err { OnErr result (result ≡ Err RunError.SayFault) }
+        ensures ends { self.old.base.stopped ≡ false
+            → EndsAnswering H.told H.failures self.old.base self.new.base result }
+        ensures run { (o : Origin H) (rest : List (List ℕ))
+            → Progress H.told H.moment H.left_since o rest self.old.base self.old.waiting.items self.old.changes
+            → Says H.told H.moment H.left_since o rest self.new.base self.new.waiting.items self.new.changes result }
+    {
+        if self.waiting.is_empty() {
+            return Ok(());
+        }
+        self.base.say(&self.waiting)?;
+        self.waiting.clear();
+        Ok(())
+    }
+
+    /// Whether so much waits that it wants to be said.
+    pub(crate) fn is_full(&self) -> bool {
+        self.waiting.len() >= PIECE
+    }
+}
+
+/// What a SET of a node is answered, which is made where it isn't refused.
+fn set_node<H: Host>(
+    alloc: Global,
+    base: &mut Base<H>,
+    reference: &Reference,
+    value: &[u8],
+) -> Result<Answer, RunError> {
+    match set(alloc, base, reference, value) {
+        Ok(()) => Ok(Answer::Done),
+        Err(BaseError::KeyTooLong) => Ok(Answer::KeyTooLong {
+            len: key_len(reference),
+        }),
+        Err(BaseError::ValueTooLong) => Ok(Answer::ValueTooLong {
+            len: value.len() as u64,
+        }),
+        Err(BaseError::TnSpent) => Ok(Answer::TnSpent),
+        Err(BaseError::Full) => Ok(Answer::Full {
+            free: base.header().free,
+        }),
+        Err(BaseError::TooDeep) => Ok(Answer::TooDeep),
+        Err(error) => Err(error.into()),
+    }
+}
+
+/// What a GET of a node is answered.
+fn value_of<H: Host>(
+    alloc: Global,
+    base: &mut Base<H>,
+    reference: &Reference,
+) -> Result<Answer, RunError> {
+    match get(alloc, base, reference) {
+        Ok(Some(value)) => Ok(Answer::Value { value }),
+        Ok(None) => Ok(Answer::Undefined),
+        Err(BaseError::KeyTooLong) => Ok(Answer::KeyTooLong {
+            len: key_len(reference),
+        }),
+        Err(error) => Err(error.into()),
+    }
+}
