@@ -9,4 +9,9 @@ mod MayLemmas
 mod SettingLemmas
 mod ReadyLemmas
 mod DraftingLemmas
-mod FoundLemmas
+mod CarryLemmas
+mod DeepPathLemmas
+mod DeepLemmas
+mod CrashLemmas
+mod CommittingLemmas
+mod DifferLemmas

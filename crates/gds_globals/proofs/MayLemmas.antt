@@ -13,7 +13,7 @@ use Rattle.gds_file.proofs.FrameLemmas.{kept_equal, root_kept}
 use Rattle.gds_file.proofs.ReshapeLemmas.{has_append}
 use Rattle.gds_file.proofs.UseLemmas.{in_has, proper_block}
 use Rattle.gds_header.specs.Fields.{block_of, fields_of}
-use Rattle.gds_insert.specs.SetIn.{MaySet}
+use Rattle.gds_insert.specs.SetIn.{IsDeepFor, MaySet}
 use Rattle.gds_law.specs.Visit.{directory_root}
 use Rattle.gds_law.proofs.KeyLemmas.{key_test}
 use Rattle.gds_law.proofs.MembershipLemmas.{in_from_Contains}
@@ -31,6 +31,7 @@ use Rattle.m_key.specs.KeyEnd.{IsKey}
 use Rattle.m_key.proofs.NodeEndLemmas.{IsKey-key_bytes}
 use Rattle.gds_globals.specs.Node.{name_key}
 use Rattle.gds_globals.specs.SetLaws.{Plants}
+use Rattle.gds_globals.proofs.CarryLemmas.{deep_carried, deep_for}
 use Rattle.gds_globals.proofs.FileLemmas.{entry_of, entry_points, some_same}
 use Rattle.gds_globals.proofs.NameLemmas.{is_name_key, name_no_longer, name_of_key, no_fault_of_name, no_parts_of_name}
 use Rattle.gds_globals.proofs.NewGlobalLemmas.{busy_directory, busy_file, has_root, key_max_kept, lawful_file}
@@ -105,6 +106,21 @@ module _ (file : List ℕ) (d : Tree) (globals : List Tree) (s : IsSound file d 
     directory_there =
         root_kept file planted own.limits directory_root d s.directory_tree
         (λ n i. kept_equal file planted n own.limits.tn (stays n (in_has d.blocks n i)))
+
+    number : IsTreeNumber (fields_of file).total directory_root.block
+    number = record {
+      positive = omega arith;
+      within = omega (arith, image.limits.total_from);
+      no_map = λ e. absurd (omega (arith, e));
+    }
+
+    -- a leaf of the directory that has no room behind a planted tree had none before
+    pub deep_before : IsDeepFor planted directory_root (name_key p.node.name)
+        → IsDeepFor file directory_root (name_key p.node.name)
+    deep_before deep =
+        deep_for file directory_root (name_key p.node.name)
+        (deep_carried planted file image own.limits.block_size own.limits.key_max directory_root d number
+        (λ n there. stays n (in_has d.blocks n there)) s.directory_tree (name_key p.node.name) deep)
 
     pub may_in_directory : MaySet planted directory_root d (name_key p.node.name) pointer
     may_in_directory = record {

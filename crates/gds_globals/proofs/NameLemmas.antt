@@ -21,14 +21,14 @@ use Rattle.gds_sound.proofs.PairLemmas.{key_name}
 use Rattle.gds_globals.specs.Node.{name_key}
 
 -- the node of a name without subscripts
-abbrev bare : List ℕ → Node
+abbrev pub bare : List ℕ → Node
 bare name = record { name = name; subscripts = [] }
 
 bare_right : (name : List ℕ) → IsName name → IsNode (bare name)
 bare_right name is = record { name = is; count = omega arith; subscripts = All-from_recursion IsSubscript [] tt }
 
 -- It has this key.
-bare_key : (name : List ℕ) → key_bytes (bare name) ≡ name_key name
+pub bare_key : (name : List ℕ) → key_bytes (bare name) ≡ name_key name
 bare_key name = key-is (bare name)
 
 pub is_name_key : (name : List ℕ) → IsName name → IsKey (name_key name)

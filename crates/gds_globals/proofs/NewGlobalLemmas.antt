@@ -1,5 +1,5 @@
 -- A tree that is planted for a new global, and the entry of the directory that leads to it.
-use Rattle.std.proofs.Common.{◌≡◌, ℕ, ◌<◌, ◌≤◌, false, List, [], ◌∷◌, ◌++◌, length, None, Some}
+use Rattle.std.proofs.Common.{◌≡◌, ℕ, ◌-◌, ◌<◌, ◌≤◌, false, List, [], ◌∷◌, ◌++◌, length, None, Some}
 use Rattle.std.proofs.Common.{inl, inr, refl, sym, ap, subst, ◌∙◌, arith}
 use Rattle.std.specs.Prelude.{All, IsTrue, nat_eq}
 use Rattle.std.specs.List.{AllZip, IsDistinct}
@@ -118,6 +118,9 @@ module _ (before planted : List ℕ) (d : Tree) (globals : List Tree) (s : IsSou
 
   pub total_kept : (fields_of planted).total ≡ (fields_of before).total
   total_kept = ap (λ (h : Header). h.total) (same_header ∙ t.fields)
+
+  pub free_left : (fields_of planted).free ≡ (fields_of before).free - 2
+  free_left = ap (λ (h : Header). h.free) (same_header ∙ t.fields)
 
   pub has_root : IsTrue (has_block both_blocks root)
   has_root = or_left (nat_eq root root) _ (eq-eqb root root refl)

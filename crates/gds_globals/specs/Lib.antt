@@ -3,4 +3,4 @@ pub mod Ending
 pub mod SetLaws
 pub mod Planting
 pub mod Ready
-pub mod Committing
+pub mod Deep

@@ -10,6 +10,6 @@ mod setting;
 
 pub use asking::get;
 pub use committing::set;
-pub use laws::{finds_through, item_of_global};
+pub use laws::item_of_global;
 pub use ready::draft_set;
 pub use setting::set_in_draft;

@@ -1,12 +1,12 @@
-ghost use Rattle.std.specs.Prelude.{◌≡◌, ◌+◌, ◌^◌, ◌<◌, ◌≤◌, All, IfOk, List, OnOk, length};
+ghost use Rattle.std.specs.Prelude.{◌≡◌, ◌+◌, ◌^◌, ◌<◌, ◌≤◌, IfOk, None, length};
 ghost use Rattle.std.specs.Option.{ForSome};
 ghost use Rattle.gds_base.specs.Drafting.{IsDraftFor};
-ghost use Rattle.gds_base.specs.Ending.{EndsReading};
 ghost use Rattle.gds_base.specs.Faultless.{IsFaultless};
 ghost use Rattle.gds_draft.specs.Drafted.{drafted};
-ghost use Rattle.gds_file.specs.Room.{new_maps};
+ghost use Rattle.gds_file.specs.Room.{new_maps, room_of};
 ghost use Rattle.gds_globals.specs.Ending.{EndsDrafting};
 ghost use Rattle.gds_globals.specs.Ready.{IsNextHeader, LeadsToSet};
+ghost use Rattle.gds_shape.specs.Depth.{IsDeep};
 ghost use Rattle.gds_units.specs.Reading.{OnlyRead};
 ghost use Rattle.gds_units.specs.State.{image_of};
 ghost use Rattle.m_key.specs.Key.{key_bytes};
@@ -16,7 +16,7 @@ use crate::asking::short_key;
 use crate::setting::set_in_draft;
 use gds_base::{Base, BaseError};
 use gds_draft::Draft;
-use host_model::{Host, UnitSource};
+use host_model::Host;
 use m_key::Reference;
 use std::alloc::Global;
 
@@ -26,7 +26,7 @@ const LAST_NUMBER: u64 = 1 << 63;
 /// Makes a SET ready: the draft with which a commit makes the image that of the map after the SET.
 ///
 /// Nothing is changed yet. What can be said against a SET comes first, in this order: `KeyTooLong`, `ValueTooLong`,
-/// `TnSpent` and `Full`.
+/// `TnSpent` and `Full`. `TooDeep` comes only where the image is deep for the node.
 pub fn draft_set<H: Host>(
     alloc: Global,
     base: &mut Base<H>,
@@ -37,12 +37,15 @@ pub fn draft_set<H: Host>(
     ensures header { IfOk result (λ draft. IsNextHeader base.old.header draft.header) }
     ensures few { IfOk result (λ draft.
         length draft.units ≤ 47 + new_maps base.old.header.total draft.header.total) }
+    ensures used { IfOk result (λ draft. ForSome (image_of base.old) (λ _.
+        room_of base.old.header ≤ room_of draft.header + 32)) }
     ensures faultless { IfOk result (λ draft. ForSome (image_of base.old) (λ image.
         IsFaultless (drafted draft image))) }
     ensures map { IfOk result (λ draft. ForSome (image_of base.old)
         (LeadsToSet draft (place_of reference.now) value.now)) }
     ensures read { OnlyRead H.told H.moment H.failures H.left_since base.old base.new }
     ensures ends { EndsDrafting base.old.header (length (key_bytes (node_of reference.now))) (length value.now)
+        (image_of base.old ≡ None) (ForSome (image_of base.old) (λ image. IsDeep image (node_of reference.now)))
         (H.failures base.old.host) (H.failures base.new.host) result }
 {
     let header = *base.header();
@@ -72,30 +75,24 @@ fn draft_with<H: Host>(
     ensures header { IfOk result (λ draft. IsNextHeader base.old.header draft.header) }
     ensures few { IfOk result (λ draft.
         length draft.units ≤ 47 + new_maps base.old.header.total draft.header.total) }
+    ensures used { IfOk result (λ draft. ForSome (image_of base.old) (λ _.
+        room_of base.old.header ≤ room_of draft.header + 32)) }
     ensures faultless { IfOk result (λ draft. ForSome (image_of base.old) (λ image.
         IsFaultless (drafted draft image))) }
     ensures map { IfOk result (λ draft. ForSome (image_of base.old)
         (LeadsToSet draft (place_of reference.now) value.now)) }
     ensures read { OnlyRead H.told H.moment H.failures H.left_since base.old base.new }
     ensures ends { EndsDrafting base.old.header (length (key_bytes (node_of reference.now))) (length value.now)
+        (image_of base.old ≡ None) (ForSome (image_of base.old) (λ image. IsDeep image (node_of reference.now)))
         (H.failures base.old.host) (H.failures base.new.host) result }
 {
     let mut draft = base.draft(alloc);
     base.hold_draft(&draft);
     let _limits = base.header();
     base.reserve32(alloc, &mut draft)?;
-    hold_bytes(base)?;
+    base.hold_draft(&draft);
     set_in_draft(alloc, base, &mut draft, reference, key, value)?;
     base.hold_draft(&draft);
+    draft.hold_bytes();
     Ok(draft)
-}
-
-// That what is told of an image are bytes.
-fn hold_bytes<H: Host>(base: &mut Base<H>) -> Result<(), BaseError>
-    ensures bytes { ForSome (image_of base.old) (All (λ b. b < 256)) }
-    ensures read { OnlyRead H.told H.moment H.failures H.left_since base.old base.new }
-    ensures ends { EndsReading (H.failures base.old.host) (H.failures base.new.host) (image_of base.old ≡ None) result }
-{
-    base.length()?;
-    Ok(())
 }

@@ -29,6 +29,7 @@ pub(crate) fn set_in_pieces<H: Host>(
     requires short { length key.now ≤ 255 }
     ensures set { OnOk result (Drafts base.old draft.old draft.new
         (SetsAt (steps_of (above.now ++ leaf ∷ [])) place.now key.now rest.now)) }
+    ensures free { OnOk result (draft.old.header.free ≤ draft.new.header.free + (2 * length above.now + 3)) }
     ensures drafts { OnlyDrafts H.told H.moment H.failures H.left_since base.old base.new draft.old draft.new
         (5 * length above.now + 7) }
     ensures ends { EndsParting (H.failures base.old.host) (H.failures base.new.host)

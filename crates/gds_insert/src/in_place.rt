@@ -36,6 +36,7 @@ pub(crate) fn set_in_place<H: Host>(
     ensures set { IfOk result (λ done. OnTrue done (Drafts base.old draft.old draft.new
         (SetsLeaf leaf place.now key.now rest.now))) }
     ensures full { IfOk result (λ done. OnFalse done (draft.new ≡ draft.old)) }
+    ensures more { HasMore draft.old draft.new 1 }
     ensures drafts { OnlyDrafts H.told H.moment H.failures H.left_since base.old base.new draft.old draft.new 1 }
     ensures ends { EndsReading (H.failures base.old.host) (H.failures base.new.host)
         (WithDraft base.old draft.old (IsNoLeaf leaf place.now key.now rest.now)) result }

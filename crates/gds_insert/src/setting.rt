@@ -30,6 +30,7 @@ pub fn set_in<H: Host>(
     requires draft { IsDraftFor base.old.header draft.old }
     requires short { length key.now ≤ 255 }
     ensures set { OnOk result (Drafts base.old draft.old draft.new (SetsIn root key.now value.now)) }
+    ensures free { OnOk result (draft.old.header.free ≤ draft.new.header.free + 17) }
     ensures drafts { OnlyDrafts H.told H.moment H.failures H.left_since base.old base.new draft.old draft.new 42 }
     ensures few { OnOk result (WithDraft base.old draft.old (AddsFew root key.now value.now draft.old draft.new)) }
     ensures ends { EndsParting (H.failures base.old.host) (H.failures base.new.host)
@@ -56,6 +57,7 @@ fn set_at<H: Host>(
     requires within { All (λ s. s.block < draft.old.header.total) steps.now }
     ensures set { OnOk result (Drafts base.old draft.old draft.new
         (SetsAt (steps_of steps.now) place.now key.now rest.now)) }
+    ensures free { OnOk result (draft.old.header.free ≤ draft.new.header.free + (2 * length steps.now + 1)) }
     ensures drafts { OnlyDrafts H.told H.moment H.failures H.left_since base.old base.new draft.old draft.new
         (5 * length steps.now + 2) }
     ensures ends { EndsParting (H.failures base.old.host) (H.failures base.new.host)

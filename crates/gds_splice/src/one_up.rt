@@ -1,4 +1,4 @@
-ghost use Rattle.std.specs.Prelude.{◌≡◌, ◌+◌, ◌≤◌, false, IfOk, IfSome, if◌then◌else◌};
+ghost use Rattle.std.specs.Prelude.{◌≡◌, ◌+◌, ◌≤◌, false, IfOk, IfSome, OnOk, if◌then◌else◌};
 ghost use Rattle.gds_base.specs.Drafting.{Drafts, IsDraftFor, OnlyDrafts, WithDraft};
 ghost use Rattle.gds_splice.specs.Ending.{EndsParting};
 ghost use Rattle.gds_splice.specs.OneUp.{CannotTellOne, IsAtEnd, TellsOne};
@@ -27,6 +27,7 @@ pub(crate) fn tell_one<H: Host>(
         (TellsOne step is_root parts.now own)) }
     ensures up { IfOk result (λ own. IfSome own (λ _. (is_root ≡ false)
         × (draft.old.header.free ≤ draft.new.header.free + 2))) }
+    ensures free { OnOk result (draft.old.header.free ≤ draft.new.header.free + (if is_root then 3 else 2)) }
     ensures drafts { OnlyDrafts H.told H.moment H.failures H.left_since base.old base.new draft.old draft.new
         (if is_root then 7 else 5) }
     ensures ends { EndsParting (H.failures base.old.host) (H.failures base.new.host)

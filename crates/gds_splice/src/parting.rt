@@ -1,4 +1,4 @@
-ghost use Rattle.std.specs.Prelude.{◌+◌, ◌*◌, OnOk, length};
+ghost use Rattle.std.specs.Prelude.{◌+◌, ◌*◌, ◌≤◌, OnOk, length};
 ghost use Rattle.gds_base.specs.Drafting.{Drafts, IsDraftFor, OnlyDrafts, WithDraft};
 ghost use Rattle.gds_splice.specs.Ending.{EndsParting};
 ghost use Rattle.gds_splice.specs.Parting.{CannotGrow, CannotPart, PartsUpwards};
@@ -25,6 +25,7 @@ pub fn part<H: Host>(
 ) -> Result<(), BaseError>
     requires { IsDraftFor base.old.header draft.old }
     ensures parted { OnOk result (Drafts base.old draft.old draft.new (PartsUpwards steps.now parts.now)) }
+    ensures free { OnOk result (draft.old.header.free ≤ draft.new.header.free + (2 * length steps.now + 1)) }
     ensures drafts { OnlyDrafts H.told H.moment H.failures H.left_since base.old base.new draft.old draft.new
         (5 * length steps.now + 2) }
     ensures ends { EndsParting (H.failures base.old.host) (H.failures base.new.host)

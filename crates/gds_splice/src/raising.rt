@@ -37,6 +37,7 @@ pub(crate) fn raise_root<H: Host>(
     ensures raised { OnOk result (Drafts base.old draft.old draft.new (λ before after.
         IsLawful before → Raises before after root node.level (items node.entries.items))) }
     ensures low { OnOk result (node.level < 7) }
+    ensures free { OnOk result (draft.old.header.free ≤ draft.new.header.free + 3) }
     ensures drafts { OnlyDrafts H.told H.moment H.failures H.left_since base.old base.new draft.old draft.new 7 }
     ensures ends { EndsParting (H.failures base.old.host) (H.failures base.new.host)
         (WithDraft base.old draft.old (CannotRaise node.level (items node.entries.items))) (7 ≤ node.level) result }
