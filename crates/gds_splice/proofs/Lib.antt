@@ -25,4 +25,7 @@ pub mod NodePutLemmas
 pub mod ChangingLemmas
 pub mod PartingLemmas
 pub mod SplicingLemmas
+pub mod FewerLemmas
+pub mod NewKeyLemmas
+pub mod SpanLemmas
 pub mod SpliceUpLemmas

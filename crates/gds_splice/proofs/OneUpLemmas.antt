@@ -210,7 +210,7 @@ pub cannot_tell : (step : Step) (top : Bool) (parts : Parts) (node : Node) (file
     → IsToldAt step parts node file → CannotPut step.block top node file → CannotTellOne step top parts file
 cannot_tell step top parts node file at cannot root a above child level pieces below p free =
     cannot root above a.visit level (around a.left p.parted.over.tree a.right)
-    (to_put file root a above child level pieces below step top parts p node at) free
+    (to_put file root a above child level pieces below step top parts p node at) (λ more. free)
 
 pub is_at_end : (step : Step) (top : Bool) (parts : Parts) (node : Node) (file : List ℕ)
     → IsToldAt step parts node file → IsHighest top node file → IsAtEnd step top parts file

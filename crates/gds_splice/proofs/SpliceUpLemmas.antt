@@ -1,6 +1,6 @@
 -- Entries in the place of neighbouring children, up to the root.
-use Rattle.std.proofs.Common.{◌≡◌, ◌+◌, ◌≤◌, ℕ, suc, Bool, false, List, [], ◌∷◌, ◌++◌, length, None, Some}
-use Rattle.std.proofs.Common.{sym, ap, ◌∙◌, subst, arith}
+use Rattle.std.proofs.Common.{◌≡◌, ◌+◌, ◌<◌, ◌≤◌, ℕ, suc, Bool, false, List, [], ◌∷◌, ◌++◌, length, None, Some}
+use Rattle.std.proofs.Common.{inl, inr, sym, ap, ◌∙◌, subst, arith}
 use Rattle.std.specs.Prelude.{◌==◌}
 use Rattle.std.proofs.lemmas.Bool.{false≢true}
 use Rattle.std.proofs.lemmas.List.{length-map}
@@ -17,15 +17,17 @@ use Rattle.gds_ancestors.specs.Ancestors.{Ancestor, outer_blocks}
 use Rattle.gds_find.specs.declared.trail.Step.{Step}
 use Rattle.gds_splice.specs.NodePut.{CannotPut, IsHighest, IsToPut, PutsNode}
 use Rattle.gds_splice.specs.Parted.{MayPart, items_around, part_blocks}
-use Rattle.gds_splice.specs.Parting.{CannotGrow, CannotPart, IsFull, IsToPart, PartsUpwards}
+use Rattle.gds_splice.specs.Parting.{CannotGrow, CannotPart, IsFull, IsToPart, IsTooDeep, PartsUpwards}
 use Rattle.gds_splice.specs.Parts.{FitInThree}
 use Rattle.gds_splice.specs.SplicedNode.{CannotSpliceAt, IsSplicedAt, IsStepToSpan}
-use Rattle.gds_splice.specs.Splicing.{CannotGrowAt, CannotSplice, IsToSplice, Span, SplicesAt, spliced_entries}
+use Rattle.gds_splice.specs.Splicing.{CannotGrowAt, CannotSplice, IsToSplice, IsTooDeepFor, Span, SplicesAt}
+use Rattle.gds_splice.specs.Splicing.{new_entries, spliced_entries}
 use Rattle.gds_splice.specs.declared.node.Node.{Node}
 use Rattle.gds_splice.specs.declared.parts.Parts.{Parts}
 use Rattle.gds_splice.proofs.AncestorLemmas.{becomes_behind}
 use Rattle.gds_splice.proofs.ImageLemmas.{image_of}
 use Rattle.gds_splice.proofs.PartingLemmas.{IsLast, last_step, none_if, steps_long, still_full}
+use Rattle.gds_splice.proofs.SpanLemmas.{fits_in_place, takes}
 use Rattle.gds_splice.proofs.SplicingLemmas.{spliced_may_part}
 
 -- the index block as an ancestor of the first child that goes
@@ -74,7 +76,8 @@ module _ (file : List ℕ) (steps outer : List Step) (step : Step) (top : Bool) 
           at_top = none_if above (length outer) top
               (sym (length-map outer (λ (x : Step). (x.block, x.offset))) ∙ ap length l.outer_lead ∙ steps_long above)
               empty;
-          three = subst (FitInThree (fields_of file).block_size) (sym n.entries_are) s.three;
+          three = subst (FitInThree (fields_of file).block_size) (sym n.entries_are)
+              (takes file root above v level p put middle steps taken s).three;
         }
 
     entries_are : (root : Visit) (above : List Ancestor) (v : Visit) (level : ℕ) (p : Span) (middle : Tree)
@@ -82,6 +85,35 @@ module _ (file : List ℕ) (steps outer : List Step) (step : Step) (top : Bool) 
         → items node.entries.items ≡ spliced_entries p put
     entries_are root above v level p middle s =
         (spliced v level p.front p.gone p.back (to_span root above v level p middle s)).entries_are
+
+    -- Where no key is new they fit, and else they need at most the room of two records more.
+    pub in_place : (root : Visit) (above : List Ancestor) (v : Visit) (level : ℕ) (p : Span) (middle : Tree)
+        → IsToSplice file root above v level p put middle steps taken → new_entries p put ≡ []
+        → packed_size (items node.entries.items) ≤ (fields_of file).block_size
+    in_place root above v level p middle s none =
+        omega (
+          arith,
+          fits_in_place file root above v level p put middle steps taken s none,
+          ap packed_size (entries_are root above v level p middle s),
+        )
+
+    not_in_place : (root : Visit) (above : List Ancestor) (v : Visit) (level : ℕ) (p : Span) (middle : Tree)
+        → IsToSplice file root above v level p put middle steps taken
+        → (fields_of file).block_size < packed_size (items node.entries.items) → new_entries p put ≡ [] → ⊥
+    not_in_place root above v level p middle s more none =
+        omega (arith, more, in_place root above v level p middle s none)
+
+    too_deep : (root : Visit) (above : List Ancestor) (v : Visit) (level : ℕ) (p : Span) (middle : Tree)
+        → IsToSplice file root above v level p put middle steps taken
+        → (fields_of file).block_size < packed_size (items node.entries.items)
+        → IsTooDeep (fields_of file) above (suc level) → IsTooDeepFor (fields_of file) above level p put
+    too_deep root above v level p middle s more deep =
+        let same = ap packed_size (entries_are root above v level p middle s) in record {
+          new = not_in_place root above v level p middle s more;
+          more = omega (arith, more, same);
+          full = omega (arith, more, same, (takes file root above v level p put middle steps taken s).more);
+          deep = deep;
+        }
 
     -- ---- it stays one block
 
@@ -93,17 +125,19 @@ module _ (file : List ℕ) (steps outer : List Step) (step : Step) (top : Bool) 
     pub cannot_put : CannotPut step.block top node file → CannotSplice steps taken put file
     cannot_put cannot root above v level p middle s free =
         cannot root above v level (around p.left middle p.right) (to_put root above v level p middle s)
-        (omega (arith, free))
+        (λ more. elim free [
+          | inl none ↦ absurd (not_in_place root above v level p middle s more none)
+          | inr enough ↦ omega (arith, enough)
+        ])
 
     pub deep_here : IsHighest top node file → CannotGrowAt steps taken put file
     deep_here h root [] v level p middle s =
         let to = to_put root [] v level p middle s in
         let due : IsDueLevel v.level (suc level) = to.may.due in
         let none : v.level ≡ None = ap (λ (w : Visit). w.level) to.may.lead ∙ to.may.is_root.level in
-        let most : suc level ≤ 7 = (subst (λ l. IsDueLevel l (suc level)) none due).1 in (
-          omega (arith, h.more, ap packed_size (entries_are root [] v level p middle s)),
-          record { levels = omega (arith, h.high, to.level_is, most); full = All-nil (IsFull (fields_of file)) },
-        )
+        let most : suc level ≤ 7 = (subst (λ l. IsDueLevel l (suc level)) none due).1 in
+        too_deep root [] v level p middle s h.more
+        (record { levels = omega (arith, h.high, to.level_is, most); full = All-nil (IsFull (fields_of file)) })
     deep_here h root (b ∷ above) v level p middle s =
         absurd (false≢true (sym (to_put root (b ∷ above) v level p middle s).at_top ∙ h.is_top))
 
@@ -142,7 +176,17 @@ module _ (file : List ℕ) (steps outer : List Step) (step : Step) (top : Bool) 
             few = u.few;
             leads = (last_of root (b ∷ above) v level p middle s).outer_lead;
             told = u.told;
-          }) (omega (arith, free, kept))
+          }) (elim free [
+            | inl none ↦ absurd (not_in_place root (b ∷ above) v level p middle s u.more none)
+            | inr enough ↦ omega (arith, enough, kept)
+          ])
+
+      pub never_up : (root : Visit) (above : List Ancestor) (v : Visit) (level : ℕ) (p : Span) (middle : Tree)
+          → IsToSplice file root above v level p put middle steps taken → new_entries p put ≡ [] → ⊥
+      never_up root [] v level p middle s none = not_top root v level p middle s
+      never_up root (b ∷ above) v level p middle s none =
+          let u = puts root b above v level (around p.left middle p.right) (to_put root (b ∷ above) v level p middle s) in
+          not_in_place root (b ∷ above) v level p middle s u.more none
 
       pub deep_up : CannotGrow outer own mid → CannotGrowAt steps taken put file
       deep_up rest root [] v level p middle s = absurd (not_top root v level p middle s)
@@ -154,10 +198,8 @@ module _ (file : List ℕ) (steps outer : List Step) (step : Step) (top : Bool) 
             few = u.few;
             leads = (last_of root (b ∷ above) v level p middle s).outer_lead;
             told = u.told;
-          }) in (
-            omega (arith, u.more, ap packed_size (entries_are root (b ∷ above) v level p middle s)),
-            record {
-              levels = deep.levels;
-              full = still_full (fields_of file) (fields_of mid) u.goes.reshapes.limits (b ∷ above) deep.full;
-            },
-          )
+          }) in
+          too_deep root (b ∷ above) v level p middle s u.more (record {
+            levels = deep.levels;
+            full = still_full (fields_of file) (fields_of mid) u.goes.reshapes.limits (b ∷ above) deep.full;
+          })

@@ -7,6 +7,7 @@ pub mod Ending
 pub mod Told
 pub mod Divided
 pub mod OneUp
+pub mod NewKeys
 pub mod Splicing
 pub mod NodePut
 pub mod SplicedNode

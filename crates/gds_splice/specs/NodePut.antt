@@ -44,11 +44,13 @@ PutsNode block top node (Some own) before after =
     → IsToPut before root (b ∷ above) v level below block top node
     → NodeGoesUp before after root b above v level below node own
 
--- There is no such block, or too few blocks are free.
+-- There is no such block, or it has no room for the entries and too few blocks are free.
 abbrev pub CannotPut : ℕ → Bool → Node → List ℕ → Type 0
 CannotPut block top node file =
     (root : Visit) (above : List Ancestor) (v : Visit) (level : ℕ) (below : Tree)
-    → IsToPut file root above v level below block top node → blocks_taken (suc level) above ≤ (fields_of file).free → ⊥
+    → IsToPut file root above v level below block top node
+    → ((fields_of file).block_size < packed_size (items node.entries.items)
+    → blocks_taken (suc level) above ≤ (fields_of file).free) → ⊥
 
 -- A root of the highest level has no room for the entries.
 pub record IsHighest (top : Bool) (node : Node) (file : List ℕ) : Type 0 where

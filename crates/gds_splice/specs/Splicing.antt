@@ -1,8 +1,10 @@
 -- Entries in the place of neighbouring children of an index block.
-use Rattle.std.specs.Prelude.{◌≡◌, ◌≢◌, ◌⊎◌, ◌+◌, ◌<◌, ◌≤◌, ℕ, suc, nat_eq, All, List, [], ◌∷◌, ◌++◌, length, Some}
+use Rattle.std.specs.Prelude.{◌≡◌, ◌≢◌, ◌⊎◌, ◌+◌, ◌*◌, ◌<◌, ◌≤◌, ℕ, suc, nat_eq, All, List, [], ◌∷◌, ◌++◌, length, Some}
 use Rattle.std.specs.List.{IsDistinct}
 use Rattle.gds_block.specs.Item.{Item}
+use Rattle.gds_draft.specs.Draft.{DraftState}
 use Rattle.gds_header.specs.Fields.{fields_of}
+use Rattle.gds_header.specs.declared.header.Header.{Header}
 use Rattle.gds_law.specs.Visit.{Visit}
 use Rattle.gds_pack.specs.Packed.{key_behind, packed_size}
 use Rattle.gds_sound.specs.Sound.{Tree}
@@ -17,9 +19,10 @@ use Rattle.gds_split.specs.Pieces.{starred}
 use Rattle.gds_ancestors.specs.Ancestors.{Ancestor, AreAncestors, steps_to}
 use Rattle.gds_find.specs.Trail.{steps_of}
 use Rattle.gds_find.specs.declared.trail.Step.{Step}
+use Rattle.gds_splice.specs.NewKeys.{put_before, with_new_keys}
 use Rattle.gds_splice.specs.Parted.{IsRoot, MayPart, TreeBecomes, items_around, part_blocks}
 use Rattle.gds_splice.specs.Parting.{IsTooDeep, blocks_needed, blocks_taken}
-use Rattle.gds_splice.specs.Parts.{FitInThree}
+use Rattle.gds_splice.specs.Writing.{HasMore}
 
 -- The entries of an index block of which some neighbouring ones go: those before them, they themselves, and those
 -- behind, with the trees that stand below those before and below those behind.
@@ -59,17 +62,21 @@ SplicedMayPart =
     (middle : Tree) → MaySplice file root above v level p put middle
     → MayPart file root above v (suc level) (spliced_entries p put) (around p.left middle p.right)
 
+-- the entries that are put with keys which none of those that go has, where the star's key is the empty one
+abbrev pub new_entries : Span → List Item → List Item
+new_entries p put = with_new_keys p.gone (put_before p.back put)
+
 -- ---- the whole way up
 
 -- Entries may stand in the place of so many children of an index block, and these steps lead to the record of the first
--- of those. They and the others come in three parts that fit a block each.
+-- of those. At most two of them have keys that none of those children has.
 pub record IsToSplice (file : List ℕ) (root : Visit) (above : List Ancestor) (v : Visit) (level : ℕ) (p : Span)
     (put : List Item) (middle : Tree) (steps : List Step) (taken : ℕ) : Type 0 where
   pub may : MaySplice file root above v level p put middle
   pub leads : steps_of steps ≡ steps_to above ++ (v.block, packed_size p.front) ∷ []
   pub count : length p.gone ≡ taken
   pub some : p.gone ≢ []
-  pub three : FitInThree (fields_of file).block_size (spliced_entries p put)
+  pub few : length (new_entries p put) ≤ 2
 
 -- Whichever children those are, the tree of the root is sound with the others in their place.
 abbrev pub SplicesAt : List Step → ℕ → List Item → List ℕ → List ℕ → Type 0
@@ -79,17 +86,29 @@ SplicesAt steps taken put before after =
     → TreeBecomes before after root (part_blocks above v (around p.left middle p.right))
     (items_around above (around p.left middle p.right).items)
 
--- There are no such children, or too few blocks are free.
+-- Where no key is new, a draft gets at most one block that it hadn't, and its header stays.
+abbrev pub SplicesInPlace : List Step → ℕ → List Item → DraftState → DraftState → List ℕ → Type 0
+SplicesInPlace steps taken put old new file =
+    (root : Visit) (above : List Ancestor) (v : Visit) (level : ℕ) (p : Span) (middle : Tree)
+    → IsToSplice file root above v level p put middle steps taken → new_entries p put ≡ [] → HasMore old new 1
+
+-- There are no such children, or some key is new and too few blocks are free.
 abbrev pub CannotSplice : List Step → ℕ → List Item → List ℕ → Type 0
 CannotSplice steps taken put file =
     (root : Visit) (above : List Ancestor) (v : Visit) (level : ℕ) (p : Span) (middle : Tree)
     → IsToSplice file root above v level p put middle steps taken
-    → blocks_taken (suc level) above + blocks_needed (suc (suc level)) above ≤ (fields_of file).free → ⊥
+    → (new_entries p put ≡ [])
+    ⊎ (blocks_taken (suc level) above + blocks_needed (suc (suc level)) above ≤ (fields_of file).free) → ⊥
 
--- The entries don't fit the index block, and the tree above it is too deep.
+-- Some key is new, the entries don't fit the index block, that is full, and the tree above it is too deep.
+pub record IsTooDeepFor (h : Header) (above : List Ancestor) (level : ℕ) (p : Span) (put : List Item) : Type 0 where
+  pub new : new_entries p put ≢ []
+  pub more : h.block_size < packed_size (spliced_entries p put)
+  pub full : h.block_size < packed_size (p.front ++ p.gone ++ p.back) + 2 * (8 + h.key_max)
+  pub deep : IsTooDeep h above (suc level)
+
+-- Whichever children those are, that is so.
 abbrev pub CannotGrowAt : List Step → ℕ → List Item → List ℕ → Type 0
 CannotGrowAt steps taken put file =
     (root : Visit) (above : List Ancestor) (v : Visit) (level : ℕ) (p : Span) (middle : Tree)
-    → IsToSplice file root above v level p put middle steps taken
-    → ((fields_of file).block_size < packed_size (spliced_entries p put))
-    × IsTooDeep (fields_of file) above (suc level)
+    → IsToSplice file root above v level p put middle steps taken → IsTooDeepFor (fields_of file) above level p put

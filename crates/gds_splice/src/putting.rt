@@ -1,9 +1,11 @@
-ghost use Rattle.std.specs.Prelude.{◌≡◌, ◌+◌, ◌<◌, ◌≤◌, false, IfOk, IfSome, if◌then◌else◌};
+ghost use Rattle.std.specs.Prelude.{◌≡◌, ◌+◌, ◌<◌, ◌≤◌, false, IfOk, IfSome, OnOk, if◌then◌else◌};
 ghost use Rattle.gds_base.specs.Drafting.{Drafts, IsDraftFor, OnlyDrafts, WithDraft};
 ghost use Rattle.gds_pack.specs.Entry.{items};
 ghost use Rattle.gds_pack.specs.Packable.{ArePackable};
+ghost use Rattle.gds_pack.specs.Packed.{packed_size};
 ghost use Rattle.gds_splice.specs.Ending.{EndsParting};
 ghost use Rattle.gds_splice.specs.NodePut.{CannotPut, IsHighest, PutsNode};
+ghost use Rattle.gds_splice.specs.Writing.{HasMore};
 
 use crate::dividing::divide;
 use crate::halving::Growth;
@@ -37,6 +39,8 @@ pub(crate) fn put_node<H: Host>(
         (PutsNode step.block is_root node own)) }
     ensures up { IfOk result (λ own. IfSome own (λ _. (is_root ≡ false)
         × (draft.old.header.free ≤ draft.new.header.free + 2))) }
+    ensures one { packed_size (items node.entries.items) ≤ draft.old.header.block_size
+        → OnOk result (HasMore draft.old draft.new 1) }
     ensures drafts { OnlyDrafts H.told H.moment H.failures H.left_since base.old base.new draft.old draft.new
         (if is_root then 7 else 5) }
     ensures ends { EndsParting (H.failures base.old.host) (H.failures base.new.host)

@@ -2,7 +2,7 @@ ghost use Rattle.std.specs.Prelude.{◌+◌, ◌*◌, OnOk, length};
 ghost use Rattle.gds_base.specs.Drafting.{Drafts, IsDraftFor, OnlyDrafts, WithDraft};
 ghost use Rattle.gds_pack.specs.Entry.{items};
 ghost use Rattle.gds_splice.specs.Ending.{EndsParting};
-ghost use Rattle.gds_splice.specs.Splicing.{CannotGrowAt, CannotSplice, SplicesAt};
+ghost use Rattle.gds_splice.specs.Splicing.{CannotGrowAt, CannotSplice, SplicesAt, SplicesInPlace};
 
 use crate::changing::read_spliced;
 use crate::parting::part;
@@ -17,7 +17,9 @@ use std::alloc::Global;
 /// Puts entries in the place of so many neighbouring children of an index block, and goes up where they don't fit, as
 /// `part` does. Where nothing stands behind them, the last becomes the star.
 ///
-/// The last step is to the record of the first of those children, those before it lead there from the root.
+/// The last step is to the record of the first of those children, those before it lead there from the root. Where the
+/// entries have no key that those children hadn't, they fit in place: one block changes, no free one is needed, and
+/// `TooDeep` doesn't come.
 pub fn splice<H: Host>(
     alloc: Global,
     base: &mut Base<H>,
@@ -29,6 +31,8 @@ pub fn splice<H: Host>(
     requires { IsDraftFor base.old.header draft.old }
     ensures spliced { OnOk result (Drafts base.old draft.old draft.new
         (SplicesAt steps.now taken (items put.items))) }
+    ensures in_place { OnOk result (WithDraft base.old draft.old
+        (SplicesInPlace steps.now taken (items put.items) draft.old draft.new)) }
     ensures drafts { OnlyDrafts H.told H.moment H.failures H.left_since base.old base.new draft.old draft.new
         (5 * length steps.now + 2) }
     ensures ends { EndsParting (H.failures base.old.host) (H.failures base.new.host)

@@ -30,8 +30,18 @@ returns-in_err-raise_root-clause-ends g c =
     parting_exit (Unit {0}) (Option Parts) now now (h.failures c.raise_root.new.base.host) _ _ _ _
     c.in_err-raise_root.field-0.0 c.from_residual-in_err-raise_root.result (NeverFell-refl now)
     (λ cannot image is root above v level below p free.
+    let fields = drafted_fields image c.args.draft.now (c.hold_draft.ensures image is) in
     root_refused (drafted c.args.draft.now image) root above v level below c.args.step.block c.args.is_root c.args.node
-    p c.if-is_root.true (cannot image is) free)
+    p c.if-is_root.true (cannot image is) (free (omega (
+      arith,
+      c.if-packed_size-from.false,
+      c.packed_size.ensures,
+      ap (λ (es : List Entry). packed_size (items es)) c.deref.ensures.value,
+      c.from.ensures,
+      ap (λ (x : Header). x.block_size) c.header.ensures.header,
+      ap (λ (x : Header). x.block_size) fields,
+      c.requires.draft.block_size,
+    ))))
     (λ high image is.
     let file : List ℕ = drafted c.args.draft.now image in
     let fields = drafted_fields image c.args.draft.now (c.hold_draft.ensures image is) in record {
@@ -65,12 +75,22 @@ returns-in_err-divide-clause-ends g c =
     (λ cannot image is root above v level below p free.
     let file : List ℕ = drafted c.args.draft.now image in
     let fields = drafted_fields image c.args.draft.now (c.hold_draft.ensures image is) in
+    let more : (fields_of file).block_size < packed_size (items c.args.node.entries.items) = omega (
+      arith,
+      c.if-packed_size-from.false,
+      c.packed_size.ensures,
+      ap (λ (es : List Entry). packed_size (items es)) c.deref.ensures.value,
+      c.from.ensures,
+      ap (λ (x : Header). x.block_size) c.header.ensures.header,
+      ap (λ (x : Header). x.block_size) fields,
+      c.requires.draft.block_size,
+    ) in
     cannot image is p.may.maps
     (subst (λ n. FitInThree n (items c.args.node.entries.items))
     (ap (λ (x : Header). x.block_size) fields ∙ c.requires.draft.block_size) p.three)
     (omega (
       arith,
-      two_below above c.args.is_root (suc level) (fields_of file).free p.at_top c.if-is_root.false free,
+      two_below above c.args.is_root (suc level) (fields_of file).free p.at_top c.if-is_root.false (free more),
       ap (λ (x : Header). x.free) fields,
     )))
     c.from_residual-in_err-divide.ensures.1 c.in_err-divide.ensures.ends

@@ -13,7 +13,8 @@ use Rattle.gds_splice.specs.declared.parts.Parts.{Parts}
 use Rattle.gds_splice.proofs.DraftingLemmas.{same_image}
 use Rattle.gds_splice.proofs.EndingLemmas.{parting_ends, parting_exit, reading_exit}
 use Rattle.gds_splice.proofs.EntriesPutLemmas.{drafted_fields}
-use Rattle.gds_splice.proofs.SpliceUpLemmas.{cannot_put, cannot_read, cannot_up, deep_here, deep_up, put_here, put_up}
+use Rattle.gds_splice.proofs.SpliceUpLemmas.{cannot_put, cannot_read, cannot_up, deep_here, deep_up, in_place}
+use Rattle.gds_splice.proofs.SpliceUpLemmas.{never_up, put_here, put_up}
 use Rattle.gds_splice.proofs.splicing.splice.Goals as goal
 
 pub returns-in_err-node-clause-ends : goal.returns-in_err-node-clause-ends
@@ -74,6 +75,34 @@ returns-in_default-2-clause-spliced g c image told =
     (c.in_ok-node.ensures.spliced image told) mid
     (subst (λ own. PutsNode step.block c.is_empty.result node own file mid) c.in_default-2.is
     (c.in_ok-own.ensures.put image told'))
+
+pub returns-in_default-2-clause-in_place : goal.returns-in_default-2-clause-in_place
+returns-in_default-2-clause-in_place g c image told root above v level p middle s none =
+    let file : List ℕ = drafted c.args.draft.now image in
+    c.in_ok-own.ensures.one (omega (
+      arith,
+      in_place file c.args.steps.now c.in-Some.outer.now c.in-Some.step.now c.is_empty.result c.args.taken
+          (items c.args.put.items) c.in-Some.ensures.cases.0 c.is_empty.ensures c.in_ok-node.node
+          (c.in_ok-node.ensures.spliced image told) root above v level p middle s none,
+      ap (λ (x : Header). x.block_size) (drafted_fields image c.args.draft.now (c.hold_draft.ensures image told)),
+    ))
+
+pub returns-clause-in_place : goal.returns-clause-in_place
+returns-clause-in_place g c =
+    let h = g.H.Host in
+    let up = subst (λ own. IfSome own (λ _. (c.is_empty.result ≡ false)
+    × (c.args.draft.now.header.free ≤ c.put_node.new.draft.header.free + 2))) c.in-Some-2.is c.in_ok-own.ensures.up in
+    on_ok_weaker c.part.result (λ rest image told root above v level p middle s none.
+    let file : List ℕ = drafted c.args.draft.now image in
+    let mid : List ℕ = drafted c.put_node.new.draft image in
+    let told' = same_image h.told h.moment h.failures h.left_since c.args.base.now c.read_spliced.new.base
+    c.in_ok-node.ensures.read ∙ told in
+    absurd (never_up file c.args.steps.now c.in-Some.outer.now c.in-Some.step.now c.is_empty.result c.args.taken
+    (items c.args.put.items) c.in-Some.ensures.cases.0 c.is_empty.ensures c.in_ok-node.node
+    (c.in_ok-node.ensures.spliced image told) mid c.in-Some-2.own up.0
+    (subst (λ own. PutsNode c.in-Some.step.now.block c.is_empty.result c.in_ok-node.node own file mid) c.in-Some-2.is
+    (c.in_ok-own.ensures.put image told')) root above v level p middle s none))
+    c.part.ensures.parted
 
 pub returns-clause-spliced : goal.returns-clause-spliced
 returns-clause-spliced g c =
