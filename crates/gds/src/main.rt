@@ -4,8 +4,9 @@
 use gds_cli::{Status, gds};
 use host_file::{FileHost, StdinSource};
 use std::alloc::AllocError;
-use std::env;
+use std::fs::File;
 use std::process::ExitCode;
+use std::{env, io};
 
 /// The exit status where the arguments can't be had, as where one isn't UTF-8.
 const NO_ARGUMENTS: u8 = 24;
@@ -26,7 +27,17 @@ fn run(rt: &HostRuntime, path: &str, words: &[String]) -> Result<u8, AllocError>
     Ok(gds(rt.alloc(), words, host, input).status.code())
 }
 
+/// Where a program is started without standard input, output or error, the next file that it opens gets that number.
+/// These three files take such numbers, so that no answer is written into a database and none is read as a script.
+fn hold_standard(rt: &HostRuntime) -> io::Result<[File; 3]> {
+    let first = File::open(rt, "/dev/null")?;
+    let second = File::open(rt, "/dev/null")?;
+    let third = File::open(rt, "/dev/null")?;
+    Ok([first, second, third])
+}
+
 fn main(rt: HostRuntime) -> ExitCode {
+    let _held = hold_standard(&rt);
     let Some(all) = arguments(&rt) else {
         return ExitCode::from(NO_ARGUMENTS);
     };

@@ -1,11 +1,13 @@
 -- Blocks of the image and of the image with a draft.
 use Rattle.std.proofs.Common.{◌≡◌, ℕ, ◌+◌, ◌<◌, ◌≤◌, List, ◌++◌, length, take, sym, ap}
-use Rattle.std.proofs.Common.{◌∙◌, arith, replicate, Bor, Option, None, Some}
+use Rattle.std.proofs.Common.{subst, ◌∙◌, arith, replicate, Bor, Option, None, Some, Result, Err}
 use Rattle.std.specs.Option.{option_copied}
 use Rattle.std.specs.Prelude.{if◌then◌else◌, nat_lt}
 use Rattle.std.proofs.lemmas.Bool.{cond-false, cond-true, le-ltb, lt-ltb}
 use Rattle.std.proofs.lemmas.List.{take_at}
 use Rattle.std.proofs.lemmas.Nat.{row_fits}
+use Rattle.host_model.specs.Failures.{Failures}
+use Rattle.host_model.specs.Files.{Contents}
 use Rattle.host_model.specs.Units.{IsUnit}
 use Rattle.gds_header.specs.declared.header.Header.{Header}
 use Rattle.gds_header.specs.Fields.{block_of, fields_of, zeros}
@@ -16,6 +18,12 @@ use Rattle.gds_draft.specs.Drafted.{drafted, or_block}
 use Rattle.gds_draft.specs.Laws.{IsDraftOf}
 use Rattle.gds_draft.proofs.DraftLemmas.{drafted_read}
 use Rattle.gds_draft.proofs.UnitLemmas.{found_has}
+use Rattle.gds_units.specs.Ending.{EndsReading as EndsUnit}
+use Rattle.gds_units.specs.declared.error.UnitError.{UnitError}
+use Rattle.gds_units.specs.declared.error.UnitError.TheVariants as units
+use Rattle.gds_base.specs.Ending.{EndsReading}
+use Rattle.gds_base.specs.Errors.{base_error}
+use Rattle.gds_base.specs.declared.error.BaseError.{BaseError}
 
 -- A block of a whole database is a unit of it.
 pub block_is_unit : (image : List ℕ) (h : Header) (n size : ℕ) → IsWhole image → fields_of image ≡ h → n < h.total
@@ -81,3 +89,17 @@ copied_is o p x copied is = sym copied ∙ ap option_copied is
 -- a list that is the front of a longer one, as long as the first part of it
 pub front_is : (xs ys rest : List ℕ) (n : ℕ) → xs ≡ take n (ys ++ rest) → length ys ≡ n → xs ≡ ys
 front_is xs ys rest n is long = is ∙ take_at ys rest n long
+
+-- What reading a unit ended with is what reading a block of the base does.
+pub reading_ends : {T : Type 0} (told : Option Contents) (changed : Type 0) (before now : Failures) (e : UnitError)
+    (r : Result T BaseError) → (told ≡ None → changed) → EndsUnit {T = Unit {0}} told before now (Err e)
+    → r ≡ Err (base_error e) → EndsReading before now changed r
+reading_ends {T} told changed before now e r untold ends is =
+    subst (EndsReading before now changed) (sym is) (by e ends)
+  where
+    by : (e : UnitError) → EndsUnit {T = Unit {0}} told before now (Err e)
+        → EndsReading {T = T} before now changed (Err (base_error e))
+    by units.Memory ends = tt
+    by units.ReadFault ends = ends
+    by (units.Changed unit) ends = untold ends
+    by _ ends = absurd ends

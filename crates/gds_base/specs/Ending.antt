@@ -1,5 +1,5 @@
 -- How calls on a base end, and what each answer is blamed on.
-use Rattle.std.specs.Prelude.{◌≡◌, ℕ, true, false, Option, None, Result, Ok, Err}
+use Rattle.std.specs.Prelude.{◌≡◌, ◌+◌, ◌≤◌, ℕ, true, false, Option, None, Result, Ok, Err}
 use Rattle.host_model.specs.Failures.{Failures, Rose}
 use Rattle.host_model.specs.Files.{Contents}
 use Rattle.gds_units.specs.Reading.{OnlyRead}
@@ -17,11 +17,12 @@ EndsReading before now changed (Err ReadFault) = Rose before.read now.read
 EndsReading before now changed (Err (Changed unit)) = changed
 EndsReading before now changed (Err _) = ⊥
 
--- Once what a call lent is given back the base was only read, and the call ended so.
+-- Once what a call lent is given back the base was only read, by one call of the host at most, and the call ended so.
 pub record EndsLending {H T : Type 0} (told : H → Option Contents) (moment : H → ℕ) (counts : H → Failures)
     (left_since : H → ℕ → Contents → Type 0) (old new : UnitsState H) (result : Result T BaseError) : Type 0 where
   pub read : OnlyRead told moment counts left_since old new
   pub ends : EndsReading (counts old.host) (counts new.host) (image_of old ≡ None) result
+  pub calls : moment new.host ≤ moment old.host + 1
 
 -- A call that writes succeeds or stops all further writing, and where that has been stopped does nothing.
 module _ {H T : Type 0} (before now : Failures) (old new : UnitsState H) where

@@ -1,4 +1,4 @@
-ghost use Rattle.std.specs.Prelude.{◌≡◌, ◌<◌, [], All, IfErr, IfOk, None};
+ghost use Rattle.std.specs.Prelude.{◌≡◌, ◌<◌, [], All, IfErr, IfOk, None, Some};
 ghost use Rattle.std.specs.Option.{ForSome};
 ghost use Rattle.host_model.specs.Moments.{EachLeft};
 ghost use Rattle.gds_header.specs.Fields.{fields_of};
@@ -96,10 +96,12 @@ impl<H: Host> Base<H> {
         let _drafted = draft.header();
     }
 
-    /// Does nothing: the image is told exactly where the host tells.
+    /// Does nothing: the image is told exactly where the host tells. Where no unit waits, the file is what the host
+    /// tells.
     pub fn hold_told(&self)
         ensures untold { H.told self.now.host ≡ None → image_of self.now ≡ None }
         ensures tells { image_of self.now ≡ None → H.told self.now.host ≡ None }
+        ensures file { self.now.changed ≡ 0 → ForSome (H.told self.now.host) (λ c. self.now.file ≡ Some c.db) }
     {
         self.units.hold_told();
     }

@@ -1,4 +1,4 @@
-ghost use Rattle.std.specs.Prelude.{◌≡◌, ◌+◌, ◌<◌, Err, None, IfOk, OnErr, OnOk, length};
+ghost use Rattle.std.specs.Prelude.{◌≡◌, ◌+◌, ◌<◌, ◌≤◌, Err, None, IfOk, OnErr, OnOk, length};
 ghost use Rattle.std.specs.Borrow.{sem};
 ghost use Rattle.std.specs.Io.BufRead.{Rests};
 ghost use Rattle.std.specs.Option.{ForSome};
@@ -15,7 +15,7 @@ ghost use Rattle.gds_units.specs.State.{image_of};
 use crate::{Base, BaseError};
 use gds_draft::Draft;
 use gds_units::Units;
-use host_model::{Host, UnitSource};
+use host_model::Host;
 use std::alloc::Global;
 
 impl<H: Host> Base<H> {
@@ -28,6 +28,7 @@ impl<H: Host> Base<H> {
         ensures read { OnlyRead H.told H.moment H.failures H.left_since self.old self.new }
         ensures ends { EndsReading (H.failures self.old.host) (H.failures self.new.host)
             (image_of self.old ≡ None) result }
+        ensures calls { H.moment self.new.host ≤ H.moment self.old.host + 1 }
     {
         read_block(&mut self.units, n, out)
     }
@@ -80,9 +81,11 @@ fn read_block<H: Host>(units: &mut Units<H>, n: u32, out: &mut [u8]) -> Result<(
     ensures read { OnlyRead H.told H.moment H.failures H.left_since units.old units.new }
     ensures ends { EndsReading (H.failures units.old.host) (H.failures units.new.host)
         (image_of units.old ≡ None) result }
+    ensures calls { H.moment units.new.host ≤ H.moment units.old.host + 1 }
 {
     let _header = units.header();
-    Ok(UnitSource::unit(units, n + 1, out)?)
+    units.hold_told();
+    Ok(units.unit(n + 1, out)?)
 }
 
 /// Fills `out` with a block that a draft of the image hasn't: behind the image's end it is zero.
@@ -94,6 +97,7 @@ fn read_undrafted<H: Host>(units: &mut Units<H>, n: u32, out: &mut [u8]) -> Resu
     ensures read { OnlyRead H.told H.moment H.failures H.left_since units.old units.new }
     ensures ends { EndsReading (H.failures units.old.host) (H.failures units.new.host)
         (image_of units.old ≡ None) result }
+    ensures calls { H.moment units.new.host ≤ H.moment units.old.host + 1 }
 {
     if n < units.header().total {
         return read_block(units, n, out);

@@ -6,6 +6,8 @@ mod SayingLemmas
 mod DirectoryLemmas
 mod ExtractLemmas
 mod DueLemmas
+mod EndsLemmas
+mod CreateLemmas
 mod FaultsDueLemmas
 mod FaultLineLemmas
 pub mod LeafRecordLemmas

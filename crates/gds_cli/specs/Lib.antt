@@ -6,4 +6,6 @@ pub mod Leaf
 pub mod Directory
 pub mod FaultText
 pub mod Answer
+pub mod Saying
+pub mod Create
 pub mod Extract

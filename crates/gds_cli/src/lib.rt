@@ -2,6 +2,8 @@
 #![tactic(auto)]
 
 mod call;
+mod create;
+mod extract;
 mod fault_list;
 mod fault_text;
 mod laws;

@@ -1,7 +1,11 @@
-ghost use Rattle.std.specs.Prelude.{◌≡◌, ◌⊎◌, false};
+ghost use Rattle.std.specs.Prelude.{◌≡◌, ◌⊎◌, None, false};
+ghost use Rattle.host_model.specs.Disk.{SaysSome};
 ghost use Rattle.host_model.specs.Failures.{Rose, counted};
 ghost use Rattle.host_model.specs.Frames.{WasUsed};
-ghost use Rattle.gds_cli.specs.Answer.{Answers, Reply, is_break};
+ghost use Rattle.host_model.specs.Moments.{LeavesBy};
+ghost use Rattle.gds_cli.specs.Answer.{Reply};
+ghost use Rattle.gds_cli.specs.Saying.{Answers};
+ghost use Rattle.gds_cli.specs.Status.{is_break};
 
 use crate::status::Status;
 use host_model::Host;
@@ -11,6 +15,7 @@ pub(crate) fn say<H: Host>(host: &mut H, text: &str, status: Status) -> Status
     requires { is_break status ≡ false }
     ensures host { WasUsed H.told H.failures host.old host.new
         (Answers (record { text = text.now; status = status }) result) }
+    ensures any_moment { LeavesBy H.moment H.left_since (SaysSome text.now) host.old host.new }
     ensures status { (result ≡ status) ⊎ (result ≡ Status.SayFault) }
     ensures fault { result ≡ Status.SayFault → Rose (H.failures host.old).say (H.failures host.new).say }
     ensures clock { H.moment host.new ≡ counted (H.moment host.old) }

@@ -1,8 +1,8 @@
 -- The file that a commit makes of bytes is made of bytes.
-use Rattle.std.proofs.Common.{◌≡◌, ℕ, zero, suc, ◌+◌, ◌<◌, ◌≤◌, ◌^◌, Bool, true, false, List, [], ◌∷◌, ◌++◌, length}
+use Rattle.std.proofs.Common.{◌≡◌, ℕ, zero, suc, ◌+◌, ◌<◌, ◌≤◌, ◌^◌, Bool, true, false, List, [], ◌++◌, length}
 use Rattle.std.proofs.Common.{take, drop, flat_map, refl, sym, ap, subst, ◌∙◌, arith, lit<}
 use Rattle.std.specs.Prelude.{if◌then◌else◌, nat_lt, Option, Some, None}
-use Rattle.std.specs.List.{All, AllByRecursion, concat, range_with_len}
+use Rattle.std.specs.List.{All, range_with_len}
 use Rattle.std.proofs.lemmas.List.Elements.{All-append, All-drop, All-from_recursion, All-nil, All-replicate, All-take}
 use Rattle.gds_block.specs.Fields.{u32_bytes, u64_bytes}
 use Rattle.gds_header.specs.declared.header.Header.{Header}

@@ -1,5 +1,5 @@
 -- What a trail says of the items of the tree that it goes down in.
-use Rattle.std.specs.Prelude.{◌≡◌, ℕ, Bool, true, false, All, Contains, List, [], ◌∷◌, ◌++◌, Option, None, Some, Result}
+use Rattle.std.specs.Prelude.{◌≡◌, ◌+◌, ◌≤◌, ℕ, Bool, true, false, All, Contains, List, [], ◌∷◌, ◌++◌, Option, None, Some, Result}
 use Rattle.host_model.specs.Failures.{Failures}
 use Rattle.host_model.specs.Files.{Contents}
 use Rattle.gds_base.specs.Ending.{EndsReading}
@@ -29,10 +29,11 @@ abbrev pub IsValueOf : List Item → List ℕ → Option (List ℕ) → Type 0
 IsValueOf items key (Some value) = Contains items (record { key = key; rest = value })
 IsValueOf items key None = (value : List ℕ) → Contains items (record { key = key; rest = value }) → ⊥
 
--- Once what a call lent is given back the base was only read, and the call ended as one that reads: `Changed` has this
--- cause.
+-- Once what a call lent is given back the base was only read, by one call of the host at most, and the call ended as
+-- one that reads: `Changed` has this cause.
 pub record EndsGiving {H T : Type 0} (told : H → Option Contents) (moment : H → ℕ) (counts : H → Failures)
     (left_since : H → ℕ → Contents → Type 0) (old new : UnitsState H) (changed : Type 0) (result : Result T BaseError)
     : Type 0 where
   pub read : OnlyRead told moment counts left_since old new
   pub ends : EndsReading (counts old.host) (counts new.host) changed result
+  pub calls : moment new.host ≤ moment old.host + 1

@@ -31,6 +31,7 @@ pub fn find<H: Host>(
     ensures read { OnlyRead H.told H.moment H.failures H.left_since base.old base.new }
     ensures ends { EndsReading (H.failures base.old.host) (H.failures base.new.host)
         (WithDraft base.old draft.now (λ file. (v : Visit) → HasTreeFor file v root None key.now → ⊥)) result }
+    ensures calls { H.moment base.new.host ≤ H.moment base.old.host + 8 }
 {
     trail.steps.clear();
     go_down(base, draft, root, None, key, trail)
@@ -58,6 +59,7 @@ fn go_down<H: Host>(
     ensures read { OnlyRead H.told H.moment H.failures H.left_since base.old base.new }
     ensures ends { EndsReading (H.failures base.old.host) (H.failures base.new.host)
         (WithDraft base.old draft.now (λ file. (v : Visit) → HasTreeFor file v block due key.now → ⊥)) result }
+    ensures calls { H.moment base.new.host ≤ H.moment base.old.host + most_blocks due }
 {
     let turn = turn_at(base, draft, block, due, key)?;
     trail.steps.push(Step {
@@ -92,6 +94,7 @@ fn turn_at<H: Host>(
     ensures read { OnlyRead H.told H.moment H.failures H.left_since base.old base.new }
     ensures ends { EndsReading (H.failures base.old.host) (H.failures base.new.host)
         (WithDraft base.old draft.now (λ file. (v : Visit) → HasTreeFor file v block due key.now → ⊥)) result }
+    ensures calls { H.moment base.new.host ≤ H.moment base.old.host + 1 }
 {
     base.hold_draft(draft);
     let changed = BaseError::Changed {

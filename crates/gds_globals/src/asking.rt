@@ -1,4 +1,4 @@
-ghost use Rattle.std.specs.Prelude.{◌≡◌, ◌<◌, ◌≤◌, ◌↔◌, Err, IfErr, IfOk, IsErr, None, OnOk, [], length, option_map};
+ghost use Rattle.std.specs.Prelude.{◌≡◌, ◌+◌, ◌<◌, ◌≤◌, ◌↔◌, Err, IfErr, IfOk, IsErr, None, OnOk, [], length, option_map};
 ghost use Rattle.std.specs.Option.{ForSome};
 ghost use Rattle.gds_base.specs.Drafting.{IsDraftFor, WithDraft};
 ghost use Rattle.gds_base.specs.Ending.{EndsReading};
@@ -26,7 +26,7 @@ use std::alloc::Global;
 /// The root of the directory, which has the root of each global.
 pub(crate) const DIRECTORY: u32 = 1;
 
-/// The value of a node, or `None` where it has none.
+/// The value of a node, or `None` where it has none. By the host's clock at most 18 calls are made.
 pub fn get<H: Host>(
     alloc: Global,
     base: &mut Base<H>,
@@ -38,6 +38,7 @@ pub fn get<H: Host>(
         ↔ (base.old.header.key_max < length (key_bytes (node_of reference.now))) }
     ensures read { OnlyRead H.told H.moment H.failures H.left_since base.old base.new }
     ensures ends { EndsAsking (H.failures base.old.host) (H.failures base.new.host) (image_of base.old ≡ None) result }
+    ensures calls { H.moment base.new.host ≤ H.moment base.old.host + 18 }
 {
     let key = short_key(base.header(), reference)?;
     let draft = base.draft(alloc);
@@ -76,6 +77,7 @@ pub(crate) fn root_of<H: Host>(
     ensures read { OnlyRead H.told H.moment H.failures H.left_since base.old base.new }
     ensures ends { EndsReading (H.failures base.old.host) (H.failures base.new.host)
         (WithDraft base.old draft.now (λ file. (t : Tree) → tree_at file directory_root ≡ Some t → ⊥)) result }
+    ensures calls { H.moment base.new.host ≤ H.moment base.old.host + 9 }
 {
     base.hold_draft(draft);
     let key = directory_key(name);
@@ -111,6 +113,7 @@ fn value_of<H: Host>(
     ensures read { OnlyRead H.told H.moment H.failures H.left_since base.old base.new }
     ensures ends { EndsReading (H.failures base.old.host) (H.failures base.new.host)
         (WithDraft base.old draft.now (λ file. (v : Visit) → HasTreeFor file v root None key.now → ⊥)) result }
+    ensures calls { H.moment base.new.host ≤ H.moment base.old.host + 9 }
 {
     let mut trail = Trail::new();
     find(base, draft, root, key, &mut trail)?;

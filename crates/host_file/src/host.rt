@@ -17,7 +17,7 @@ use std::rt::Files;
 /// A host over the file at a path, the file of before images beside it, and standard output.
 ///
 /// The file of before images has the same path with `.bi` at its end. A missing file has the length 0. A path
-/// that leads to what is no regular file, as a directory, fails each read.
+/// that leads to what is no regular file, as a directory, fails each read and write, and a sync of it does nothing.
 ///
 /// A file is locked by the first call that opens it, until the host is dropped. Where another program holds it, unless
 /// both may only read it, the call fails.

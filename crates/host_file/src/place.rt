@@ -92,11 +92,15 @@ impl Place {
     }
 
     /// Has the system write what it keeps of the file to the device, and the first time also the folder's entry of
-    /// the file, which may be new. A missing file has nothing to write.
+    /// the file, which may be new. A missing file has nothing to write, and nothing was written to what is no regular
+    /// file.
     pub(crate) fn sync<R: Files<File = File>>(&mut self, files: &R) -> io::Result<()>
         ensures { self.new.path ≡ self.old.path }
     {
-        self.open(files)?;
+        match self.open(files) {
+            Err(e) if e.kind() == ErrorKind::InvalidInput => return Ok(()),
+            tried => tried?,
+        }
         let Some(opened) = &mut self.opened else {
             return Ok(());
         };

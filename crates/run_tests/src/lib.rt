@@ -3,3 +3,15 @@
 
 #[cfg(test)]
 mod answers;
+#[cfg(test)]
+mod blocks;
+#[cfg(test)]
+mod crashes;
+#[cfg(test)]
+mod failures;
+#[cfg(test)]
+mod files;
+#[cfg(test)]
+mod inputs;
+#[cfg(test)]
+mod refusals;

@@ -23,6 +23,7 @@ impl<H: Host> Units<H> {
         ensures read { OnlyRead H.told H.moment H.failures H.left_since self.old self.new }
         ensures cause { EndsReading
             (H.told self.old.host) (H.failures self.old.host) (H.failures self.new.host) result }
+        ensures calls { H.moment self.new.host ≤ H.moment self.old.host + 1 }
     {
         match self.waiting.find(unit) {
             Some(bytes) => copy_unit(bytes, unit, out),
@@ -66,6 +67,7 @@ pub(crate) fn read_unit<H: Host>(
     ensures read { WasRead H.told H.failures host.old host.new }
     ensures crash { LeavesTheSame H.moment H.left_since host.old host.new }
     ensures cause { EndsReading (H.told host.old) (H.failures host.old) (H.failures host.new) result }
+    ensures calls { H.moment host.new ≤ H.moment host.old + 1 }
 {
     let at = place_of(unit, block_size);
     let Ok(count) = host.read(FileNo::Db, at, out) else {

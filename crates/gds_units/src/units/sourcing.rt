@@ -1,4 +1,4 @@
-ghost use Rattle.std.specs.Prelude.{◌≡◌, ◌<◌, ◌≤◌, All, IfOk, IfSome, IsErrOf, None, OnOk, length};
+ghost use Rattle.std.specs.Prelude.{◌≡◌, ◌<◌, ◌≤◌, All, IfOk, IfSome, IsErrOf, None, OnOk, Some, length};
 ghost use Rattle.std.specs.Option.{ForSome};
 ghost use Rattle.host_model.specs.Failures.{Rose};
 ghost use Rattle.host_model.specs.Units.{IsUnit, unit_bytes};
@@ -35,10 +35,12 @@ impl<H: Host> UnitSource for Units<H> {
 }
 
 impl<H: Host> Units<H> {
-    /// Does nothing: the image is told exactly where the host tells.
+    /// Does nothing: the image is told exactly where the host tells. Where no unit waits, the file is what the host
+    /// tells.
     pub fn hold_told(&self)
         ensures untold { H.told self.now.host ≡ None → image_of self.now ≡ None }
         ensures tells { image_of self.now ≡ None → H.told self.now.host ≡ None }
+        ensures file { self.now.changed ≡ 0 → ForSome (H.told self.now.host) (λ c. self.now.file ≡ Some c.db) }
     {
         let _host = &self.host;
     }

@@ -1,4 +1,4 @@
-use Rattle.std.proofs.Common.{◌≡◌, None, Some, Ok, drop, length, refl, sym, ap, subst, ◌∙◌}
+use Rattle.std.proofs.Common.{◌≡◌, None, Some, Ok, drop, length, refl, sym, ap, subst, ◌∙◌, arith}
 use Rattle.gds_draft.specs.Draft.{block_in}
 use Rattle.gds_base.specs.Ending.{EndsLending}
 use Rattle.gds_units.specs.Laws.{OnlyRead-refl}
@@ -17,7 +17,11 @@ returns-in-Some g c =
         λ w. tt,
         subst (λ (s : UnitsState g.row.H.Denot). EndsLending h.told h.moment h.failures h.left_since
             c.args.self.now s (Ok c.in-Some.bytes)) (sym c.self.view_is)
-            (record { read = OnlyRead-refl h.told h.moment h.failures h.left_since c.args.self.now; ends = tt }),
+            (record {
+              read = OnlyRead-refl h.told h.moment h.failures h.left_since c.args.self.now;
+              ends = tt;
+              calls = omega arith;
+            }),
       ),
       record {
         bytes = λ image is.
@@ -47,7 +51,11 @@ returns g c =
         λ w. tt,
         subst (λ (s : UnitsState g.row.H.Denot). EndsLending h.told h.moment h.failures h.left_since
             s c.read_undrafted.new.units (Ok c.deref.result)) c.self.view_is
-            (record { read = c.read_undrafted.ensures.read; ends = tt }),
+            (record {
+              read = c.read_undrafted.ensures.read;
+              ends = tt;
+              calls = c.read_undrafted.ensures.calls;
+            }),
       ),
       record {
         bytes = λ image is.

@@ -1,0 +1,85 @@
+//! The device fails, at each of its calls in turn.
+
+use crate::files::{HUNDRED, copy_of, new_database, run_text};
+use gds_run::RunError;
+use host_mem::{Call, MemHost};
+use std::test::Fail;
+
+const SCRIPT: &[u8] = b"GET ^B\nSET ^A=1\nGET ^A\nEPOCH\nGET ^A\nSET ^B=2\nGET ^B\n";
+
+const SAID: &[u8] = b"UNDEF\nOK\nVALUE \"1\"\nEPOCH 1\nVALUE \"1\"\nOK\nVALUE \"2\"\nEPOCH 2\n";
+
+/// How a run ends in which this call fails.
+fn error_of(call: &Call) -> RunError {
+    match call {
+        Call::Len { .. } | Call::Read { .. } => RunError::ReadFault,
+        Call::Write { .. } | Call::Cut { .. } | Call::Sync { .. } => RunError::WriteFault,
+        Call::Say { .. } => RunError::SayFault,
+    }
+}
+
+#[test]
+fn a_run_ends_with_the_failure(rt: HostRuntime) -> Result<(), Fail> {
+    let alloc = rt.alloc();
+    let new = new_database(alloc, &HUNDRED)?;
+    let whole = run_text(alloc, copy_of(alloc, &new, &[])?, SCRIPT)?;
+    assert_eq!(rt; whole.host.parts().2, SAID);
+    for (number, call) in (1..).zip(whole.host.calls()) {
+        let host = copy_of(alloc, &new, &[number])?;
+        let ran = run_text(alloc, host, SCRIPT)?;
+        assert_eq!(rt; ran.result, Err(error_of(call)), "{call:?}");
+        assert_eq!(rt; SAID.starts_with(ran.host.parts().2), true, "{call:?}");
+        assert_eq!(rt; ran.host.starved(), 0, "{call:?}");
+    }
+    Ok(())
+}
+
+/// A call that fails.
+#[derive(Clone, Copy)]
+enum Failing {
+    LastRead,
+    FirstWrite,
+}
+
+/// The number of that call among those of a host, or 0.
+fn number_of(host: &MemHost, failing: Failing) -> u64 {
+    let mut found = 0;
+    for call in host.calls() {
+        match (failing, call) {
+            (Failing::LastRead, Call::Read { number, .. }) => found = *number,
+            (Failing::FirstWrite, Call::Write { number, .. }) if found == 0 => found = *number,
+            _ => {}
+        }
+    }
+    found
+}
+
+/// The last read is that of the last GET, and the first write that of the epoch.
+#[test]
+fn answers_that_wait_are_said(rt: HostRuntime) -> Result<(), Fail> {
+    let alloc = rt.alloc();
+    let new = new_database(alloc, &HUNDRED)?;
+    for (label, script, failing, error, said) in [
+        (
+            "a read fails",
+            &b"GET ^B\nSET ^A=1\nGET ^A\nGET ^B\nGET ^A"[..],
+            Failing::LastRead,
+            RunError::ReadFault,
+            &b"UNDEF\nOK\nVALUE \"1\"\nUNDEF\n"[..],
+        ),
+        (
+            "a write fails",
+            b"GET ^B\nSET ^A=1\nGET ^A\nEPOCH\nGET ^A",
+            Failing::FirstWrite,
+            RunError::WriteFault,
+            b"UNDEF\nOK\nVALUE \"1\"\n",
+        ),
+    ] {
+        let whole = run_text(alloc, copy_of(alloc, &new, &[])?, script)?;
+        let number = number_of(&whole.host, failing);
+        let ran = run_text(alloc, copy_of(alloc, &new, &[number])?, script)?;
+        assert_eq!(rt; ran.result, Err(error), "{label}");
+        assert_eq!(rt; ran.host.parts().2, said, "{label}");
+    }
+    Ok(())
+}
