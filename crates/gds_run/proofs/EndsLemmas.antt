@@ -58,13 +58,32 @@ of_device changed a b x y error.InputTooLong cause = absurd cause
 of_device changed a b x y (error.BadImages at) cause = absurd cause
 of_device changed a b x y (error.Unsound faults) cause = absurd cause
 
+-- More time went by behind it.
+cause_on : (changed : Type 0) (a b c : Failures) (x y : LinesState) (e : RunError) → NeverFell b c
+    → HasLinesCause changed a b x y e → HasLinesCause changed a c x y e
+cause_on changed a b c x y error.Memory last cause = tt
+cause_on changed a b c x y error.ReadFault last cause = omega (arith, last.read, cause)
+cause_on changed a b c x y error.WriteFault last cause = omega (arith, last.write, cause)
+cause_on changed a b c x y error.SayFault last cause = omega (arith, last.say, cause)
+cause_on changed a b c x y (error.Changed unit) last cause = cause
+cause_on changed a b c x y error.InputFault last cause = cause
+cause_on changed a b c x y error.InputTooLong last cause = cause
+cause_on changed a b c x y (error.BadImages at) last cause = absurd cause
+cause_on changed a b c x y (error.Unsound faults) last cause = absurd cause
+
+err_is : (T : Type 0) (a b : RunError) (x : Result T RunError) → x ≡ Err a → x ≡ Err b → a ≡ b
+err_is T a b x first second = cc
+
 counts_then : (a b c : Option (List ℕ)) (k m n : ℕ) → TellsOn a b (Counts k m) → TellsOn b c (Counts m n)
     → TellsOn a c (Counts k n)
 counts_then a b c k m n first second =
     TellsOn-then a b c (Counts k m) (Counts m n) (Counts k n)
     (λ x y z one two. record {
-      given = (one.given.0 ++ two.given.0, one.given.1 ∙ ap (λ l. one.given.0 ++ l) two.given.1
-          ∙ sym (append_assoc one.given.0 two.given.0 z));
+      given = (
+        one.given.0 ++ two.given.0,
+        one.given.1 ∙ ap (λ l. one.given.0 ++ l) two.given.1
+            ∙ sym (append_assoc one.given.0 two.given.0 z),
+      );
       counted = two.counted ∙ one.counted;
     })
     first second
@@ -127,4 +146,45 @@ module _ {H : Type 0} (told : H → Option Contents) (counts : H → Failures) w
     took = counts_then x.untaken y.untaken z.untaken x.taken y.taken z.taken first.took second.took;
     too_long = second.too_long;
     fails = omega (arith, first.fails, second.fails);
+  }
+
+  -- An error is one of any call.
+  pub script_err : (S T : Type 0) (old new : UnitsState H) (x y : LinesState) (e : RunError)
+      → EndsScript {T = S} told counts old new x y (Err e) → EndsScript {T = T} told counts old new x y (Err e)
+  script_err S T old new x y e ends = record {
+    failures = ends.failures;
+    untold = ends.untold;
+    tells = ends.tells;
+    cause = ends.cause;
+    took = ends.took;
+    too_long = λ more. ap (λ (error : RunError). Err error) (err_is S e error.InputTooLong (Err e) refl (ends.too_long more));
+    fails = ends.fails;
+  }
+
+  pub script_ok : (S T : Type 0) (old new : UnitsState H) (x y : LinesState) (value : S) (other : T)
+      → y.taken ≤ INPUT_LIMIT → EndsScript told counts old new x y (Ok value)
+      → EndsScript told counts old new x y (Ok other)
+  script_ok S T old new x y value other few ends = record {
+    failures = ends.failures;
+    untold = ends.untold;
+    tells = ends.tells;
+    cause = tt;
+    took = ends.took;
+    too_long = λ more. absurd (omega (arith, more, few));
+    fails = ends.fails;
+  }
+
+  -- Something was said behind an error.
+  pub script_said : {T : Type 0} (old mid new : UnitsState H) (x y : LinesState) (e : RunError)
+      → NeverFell (counts mid.host) (counts new.host) → (told mid.host ≡ None → told new.host ≡ None)
+      → (told new.host ≡ None → told mid.host ≡ None) → EndsScript {T = T} told counts old mid x y (Err e)
+      → EndsScript {T = T} told counts old new x y (Err e)
+  script_said old mid new x y e last untold tells ends = record {
+    failures = NeverFell-trans (counts old.host) (counts mid.host) (counts new.host) ends.failures last;
+    untold = λ none. untold (ends.untold none);
+    tells = λ none. ends.tells (tells none);
+    cause = cause_on (told old.host ≡ None) (counts old.host) (counts mid.host) (counts new.host) x y e last ends.cause;
+    took = ends.took;
+    too_long = ends.too_long;
+    fails = ends.fails;
   }

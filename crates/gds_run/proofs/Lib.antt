@@ -9,3 +9,4 @@ pub mod AnsweredLemmas
 pub mod GoesLemmas
 pub mod NodeLemmas
 pub mod FinishLemmas
+pub mod CallLemmas

@@ -39,7 +39,7 @@ same_is_prefix script image m c d opens same = record {
   accepted = none_accepted script;
   kept = 0;
   few = omega arith;
-  durable = λ n has. absurd (omega (arith, has.1.0));
+  durable = λ n has. absurd (omega (arith, has.1));
   finds = record {
     image = image;
     recovers = same.found ∙ opens.recovers;
@@ -91,7 +91,7 @@ module _ {H : Type 0} (told : H → Option Contents) (moment : H → ℕ) (left_
         changes_are = refl;
         each = λ d left. record {
           map = m;
-          has = record { kept = 0; durable = λ n has. absurd (omega (arith, has.1.0)); few = omega arith; is = refl };
+          has = record { kept = 0; durable = λ n has. absurd (omega (arith, has.1)); few = omega arith; is = refl };
           finds = record {
             image = image;
             recovers = (each d left).found ∙ opens.recovers;
@@ -144,35 +144,43 @@ module _ {H : Type 0} (told : H → Option Contents) (moment : H → ℕ) (left_
       (base new : H) (c : Contents) (image : List ℕ) (m : Globals) (input : List ℕ)
       → Opens c image m → IsWhole told moment left_since (origin base image m c (script_of input)) new
       → (d : Contents) × (told new ≡ Some d) × IsRun input c d
-  whole_run now_left base new c image m input opens whole = (whole.contents, whole.host_tells, record {
-    image = image;
-    map = m;
-    opens = opens;
-    answers = whole.answers;
-    state = whole.state;
-    runs = whole.runs;
-    said = whole.said_is;
-    file = whole.file_is;
-    stands = whole.stands;
-    finds = whole.each whole.contents (now_left new whole.contents whole.host_tells);
-  })
+  whole_run now_left base new c image m input opens whole = (
+    whole.contents,
+    whole.host_tells,
+    record {
+      image = image;
+      map = m;
+      opens = opens;
+      answers = whole.answers;
+      state = whole.state;
+      runs = whole.runs;
+      said = whole.said_is;
+      file = whole.file_is;
+      stands = whole.stands;
+      finds = whole.each whole.contents (now_left new whole.contents whole.host_tells);
+    },
+  )
 
   pub broken_run : (base new : H) (c : Contents) (image : List ℕ) (m : Globals) (input : List ℕ)
       → Opens c image m → IsCutShort told moment left_since (origin base image m c (script_of input)) new
       → (d : Contents) × (told new ≡ Some d) × Breaks input c d
-  broken_run base new c image m input opens cut = (cut.contents, cut.host_tells, inr (record {
-    image = image;
-    map = m;
-    opens = opens;
-    lines = cut.lines;
-    rest = cut.rest;
-    script_is = cut.script_is;
-    answers = cut.answers;
-    state = cut.state;
-    runs = cut.runs;
-    n = cut.n;
-    said = cut.said_is;
-  }))
+  broken_run base new c image m input opens cut = (
+    cut.contents,
+    cut.host_tells,
+    inr (record {
+      image = image;
+      map = m;
+      opens = opens;
+      lines = cut.lines;
+      rest = cut.rest;
+      script_is = cut.script_is;
+      answers = cut.answers;
+      state = cut.state;
+      runs = cut.runs;
+      n = cut.n;
+      said = cut.said_is;
+    }),
+  )
 
   -- each moment of it
   pub ends_only : {T : Type 0} (o : Origin H) (new : H) (r : Result T RunError)

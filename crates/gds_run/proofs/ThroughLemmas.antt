@@ -2,7 +2,7 @@
 use Rattle.std.proofs.Common.{◌≡◌, ℕ, List, ◌∷◌, ◌++◌, length, take, Option, None, Some, refl, sym, ap, subst, ◌∙◌}
 use Rattle.std.proofs.Common.{take_at}
 use Rattle.std.proofs.lemmas.Grind.{flat_map-append}
-use Rattle.std.specs.Prelude.{Err}
+use Rattle.std.specs.Prelude.{Err, Ok, Result}
 use Rattle.host_model.specs.Files.{Contents}
 use Rattle.gds_script.specs.Answer.{answer_line, answer_lines}
 use Rattle.gds_units.specs.State.{UnitsState}
@@ -10,7 +10,7 @@ use Rattle.gds_run.specs.declared.error.RunError.{RunError}
 use Rattle.gds_run.specs.declared.error.RunError.TheVariants as error
 use Rattle.gds_run.specs.declared.line.Line.{Line}
 use Rattle.gds_run.specs.Line.{Means, MeansNext}
-use Rattle.gds_run.specs.Progress.{Asked, GoesOn, GoesThrough, IsCutShort, Origin, Progress}
+use Rattle.gds_run.specs.Progress.{Asked, GoesOn, GoesThrough, IsCutShort, Origin, Progress, Says}
 
 -- the bytes of the next line, whose meaning was read
 pub next_meant : (next : Option (List ℕ)) (line : Line) → MeansNext next (Some line)
@@ -21,6 +21,11 @@ next_meant (Some bytes) line means = (bytes, refl, means)
 pub none_next : (next : Option (List ℕ)) → MeansNext next None → next ≡ None
 none_next None means = refl
 none_next (Some bytes) means = absurd means
+
+-- Saying didn't fail.
+abbrev pub IsOther : RunError → Type 0
+IsOther error.SayFault = ⊥
+IsOther e = Unit {0}
 
 module _ {H : Type 0} (told : H → Option Contents) (moment : H → ℕ) (left_since : H → ℕ → Contents → Type 0)
     (o : Origin H) (base : UnitsState H) (waits : List ℕ) (changes : ℕ) where
@@ -89,3 +94,21 @@ module _ {H : Type 0} (told : H → Option Contents) (moment : H → ℕ) (left_
       → Asked told moment left_since o {T = S} rest base waits changes (Err e)
   asked_short S rest e is cut =
       subst (λ x. Asked told moment left_since o {T = S} rest base waits changes (Err x)) (sym is) cut
+
+  pub through_left : (e : RunError) (rest : List (List ℕ)) → IsOther e
+      → GoesThrough told moment left_since o {T = Unit {0}} rest base waits changes (Err e)
+      → (left : List (List ℕ)) × Progress told moment left_since o left base waits changes
+  through_left error.Memory rest other goes = goes
+  through_left error.ReadFault rest other goes = goes
+  through_left error.WriteFault rest other goes = goes
+  through_left error.SayFault rest other goes = absurd other
+  through_left error.InputFault rest other goes = goes
+  through_left error.InputTooLong rest other goes = goes
+  through_left (error.BadImages at) rest other goes = goes
+  through_left (error.Unsound faults) rest other goes = goes
+  through_left (error.Changed unit) rest other goes = goes
+
+  pub says_cut : (r : Result (Unit {0}) RunError) (rest : List (List ℕ))
+      → Says told moment left_since o rest base waits changes r → IsCutShort told moment left_since o base.host
+  says_cut (Ok value) rest says = cut_progress rest says
+  says_cut (Err e) rest says = says

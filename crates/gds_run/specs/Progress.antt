@@ -48,7 +48,6 @@ module _ {H : Type 0} (tells : H → Option Contents) (moment : H → ℕ) (left
     pub waiting_made : AreMade done.waiting_lines done.waiting done.waiting_changes
     pub map_is : state.map ≡ after_all o.map (done.told_changes ++ done.waiting_changes)
     pub count_is : state.changes ≡ length (done.told_changes ++ done.waiting_changes)
-
     -- what is there
     pub contents : Contents
     pub host_tells : tells base.host ≡ Some contents
@@ -57,7 +56,6 @@ module _ {H : Type 0} (tells : H → Option Contents) (moment : H → ℕ) (left
     pub stands : StandsFor state.image state.map
     pub waiting_is : waits ≡ answer_lines done.waiting
     pub changes_are : changes ≡ state.changes
-
     -- what a crash leaves
     pub each : EachLeft moment left_since base.host (FindsOne
         (IsKept o.map (done.told ++ done.waiting) (done.told_changes ++ done.waiting_changes) (length done.told_changes))

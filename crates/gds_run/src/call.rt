@@ -11,7 +11,7 @@ use crate::error::RunError;
 use crate::lines::answer_script;
 use crate::session::Session;
 use gds_base::Base;
-use gds_lines::Lines;
+use gds_lines::{Lines, taken_bytes_are_the_given};
 use gds_opening::open;
 use host_model::{Host, Source};
 use std::alloc::Global;
@@ -58,9 +58,11 @@ fn run_open<H: Host, I: Source>(alloc: Global, base: Base<H>, input: I) -> Ran<H
     ensures run { (o : Origin H) (text : List ℕ) → I.left input ≡ Some text → o.script ≡ script_of text
         → Progress H.told H.moment H.left_since o o.script base [] 0
         → Ends H.told H.moment H.left_since o result.host result.result }
+    ensures opened { IfErr result.result (λ error. IsRefusal error → ⊥) }
     ensures ends { EndsRun H.told H.failures base.host result.host (I.left input) (I.left result.input)
         (I.failures input) (I.failures result.input) result.result }
 {
+    taken_bytes_are_the_given();
     let mut session = Session::new(alloc, base);
     let mut lines = Lines::new(alloc, input);
     let result = answer_script(alloc, &mut session, &mut lines);

@@ -67,7 +67,7 @@ fn answer_lines<H: Host, I: Source>(
     ensures ends { EndsScript H.told H.failures session.old.base session.new.base lines.old lines.new result }
 {
     while let Some(line) = next_line(alloc, session, lines)? {
-        session.answer(alloc, &line)?;
+        session.answer(alloc, line)?;
     }
     Ok(())
 }

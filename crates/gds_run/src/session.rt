@@ -1,4 +1,5 @@
-ghost use Rattle.std.specs.Prelude.{◌≡◌, ◌^◌, ◌+◌, ◌<◌, ◌≤◌, ◌∷◌, [], ℕ, List, false, Err, OnErr, OnOk};
+ghost use Rattle.std.specs.Prelude.{◌≡◌, ◌^◌, ◌+◌, ◌<◌, ◌≤◌, ◌∷◌, [], ℕ, List, false, Err, None, OnErr, OnOk};
+ghost use Rattle.host_model.specs.Failures.{NeverFell};
 ghost use Rattle.m_key.specs.Reference.{node_of};
 ghost use Rattle.gds_words.specs.Script.{Asks, Request};
 ghost use Rattle.gds_words.specs.Script as asked;
@@ -47,13 +48,13 @@ impl<H: Host> Session<H> {
     }
 
     /// Answers a line.
-    pub(crate) fn answer(&mut self, alloc: Global, line: &Line) -> Result<(), RunError>
+    pub(crate) fn answer(&mut self, alloc: Global, line: Line) -> Result<(), RunError>
         requires going { self.old.base.stopped ≡ false }
         requires few { self.old.changes < 2 ^ 63 }
         ensures ends { EndsAnswering H.told H.failures self.old.base self.new.base result }
         ensures changes { self.new.changes ≤ self.old.changes + 1 }
         ensures run { (o : Origin H) (bytes : List ℕ) (rest : List (List ℕ))
-            → Means bytes line.now
+            → Means bytes line
             → Progress H.told H.moment H.left_since o (bytes ∷ rest) self.old.base self.old.waiting.items
             self.old.changes
             → GoesOn H.told H.moment H.left_since o bytes rest self.new.base self.new.waiting.items self.new.changes
@@ -61,9 +62,9 @@ impl<H: Host> Session<H> {
     {
         match line {
             Line::Asks(ScriptLine::Set { reference, value }) => {
-                self.answer_set(alloc, reference, value)
+                self.answer_set(alloc, &reference, &value)
             }
-            Line::Asks(ScriptLine::Get { reference }) => self.answer_get(alloc, reference),
+            Line::Asks(ScriptLine::Get { reference }) => self.answer_get(alloc, &reference),
             Line::Asks(ScriptLine::Epoch) => self.answer_epoch(alloc),
             Line::Bad => self.answer_bad_line(alloc),
         }
@@ -168,6 +169,9 @@ impl<H: Host> Session<H> {
         ensures changes { self.new.changes ≡ self.old.changes }
         ensures empty { OnOk result (self.new.waiting.items ≡ []) }
         ensures err { OnErr result (result ≡ Err RunError.SayFault) }
+        ensures failures { NeverFell (H.failures self.old.base.host) (H.failures self.new.base.host) }
+        ensures untold { H.told self.old.base.host ≡ None → H.told self.new.base.host ≡ None }
+        ensures tells { H.told self.new.base.host ≡ None → H.told self.old.base.host ≡ None }
         ensures ends { self.old.base.stopped ≡ false
             → EndsAnswering H.told H.failures self.old.base self.new.base result }
         ensures run { (o : Origin H) (rest : List (List ℕ))

@@ -57,5 +57,5 @@ returns-clause-run g c o p =
     ∙ c.in_ok-answer_epoch.ensures.stored in
     whole_at_end h.told h.moment h.left_since o new s.changes settled c.one_request.ensures
     (p.done.told_lines ++ p.done.waiting_lines) p.script_is new.file
-    (c.in_ok-shorten.ensures.file ∙ sym c.shorten.ensures.image) ?held
+    (c.in_ok-shorten.ensures.file ∙ sym c.shorten.ensures.image) (c.hold_told.ensures.file none)
     (λ d left. g.met.H.Host.said_stays new.host settled.contents d settled.host_tells left)
