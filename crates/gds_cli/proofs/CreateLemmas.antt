@@ -1,7 +1,6 @@
 -- How CREATE ends, and what a crash leaves of it.
 use Rattle.std.proofs.Common.{◌≡◌, ◌⊎◌, ◌≤◌, ℕ, List, [], ◌++◌, take, Option, Some, ⊎_elim, inl, inr, refl, sym, ap, ◌∙◌}
-use Rattle.std.proofs.Common.{Bool, None, append-nil, subst, true}
-use Rattle.std.specs.Prelude.{MatchBool}
+use Rattle.std.proofs.Common.{None, append-nil, subst, true}
 use Rattle.std.specs.Option.{ForSome}
 use Rattle.host_model.specs.Disk.{SaysSome, during}
 use Rattle.host_model.specs.Files.{Contents, saying}
@@ -21,11 +20,12 @@ use Rattle.gds_create.specs.Newborn.{HasBytes, IsEmpty, IsMade, IsNewborn, IsRef
 use Rattle.gds_cli.specs.declared.status.Status.{Status}
 use Rattle.gds_cli.specs.declared.status.Status.TheVariants as ended
 use Rattle.gds_cli.specs.Status.{is_break}
-use Rattle.gds_cli.specs.Answer.{AllOrNothing, BecomesNew, CreateDue, FindsEmpty, IsRefusedOrEmpty, Reply, SameFiles}
-use Rattle.gds_cli.specs.Answer.{Replies, SaysFront, created, not_empty}
+use Rattle.gds_cli.specs.Answer.{AllOrNothing, CreateBreaksOff, BecomesNew, CreateDue, FindsEmpty, IsRefusedOrEmpty, Reply, SameFiles}
+use Rattle.gds_cli.specs.Answer.{created, not_empty}
 use Rattle.gds_cli.specs.Create.{CreateEnds}
 use Rattle.gds_cli.specs.Saying.{Answers, SaysFrontOf}
 use Rattle.gds_cli.proofs.DueLemmas.{goes_on, match_both, not_both}
+use Rattle.gds_cli.proofs.EndsLemmas.{breaks_as}
 
 -- ---- how it ends
 
@@ -137,17 +137,8 @@ ends_kept h told mid now status same some answered =
 broken_ends : (h : Header) (status : Status) (before after : Contents) → is_break status ≡ true
     → after.said ≡ before.said → AllOrNothing h status before after → CreateEnds h status before after
 broken_ends h status before after is same leaves =
-    let P : Bool → Type 0 = λ b. MatchBool b
-    (SaysFront (CreateDue h before) before after × AllOrNothing h status before after)
-    (Replies (CreateDue h before) status before after) in
-    subst P (sym is) (
-      record {
-        text = [];
-        says = same ∙ sym (append-nil before.said);
-        front = λ reply later due. (0, refl);
-      },
-      leaves,
-    )
+    breaks_as (CreateDue h before) (CreateBreaksOff h status before after) status before after is
+    (record { text = []; says = same ∙ sym (append-nil before.said); front = λ reply later due. (0, refl) }, leaves)
 
 pub ends_unwritten : (h : Header) (told now : Option Contents) (status : Status) → is_break status ≡ true → now ≡ told
     → TellsOn told now (CreateEnds h status)

@@ -101,24 +101,24 @@ some_created h c =
     (some_bytes c.db c.images)
 
 pub one_due : (command : Result Command BadWords) (input : List ℕ) (c d e : Contents) (r s : Reply)
-    → Due command input c r d → Due command input c s e → (r ≡ s) × SameFiles d e
-one_due (Err bad) input c d e r s p q = (p.1 ∙ sym q.1, same_kept c d e p.0 q.0)
-one_due (Ok Run) input c d e r s p q = (p.1 ∙ sym q.1, same_kept c d e p.0 q.0)
-one_due (Ok Version) input c d e r s p q = (p.1 ∙ sym q.1, same_kept c d e p.0 q.0)
-one_due (Ok Integ) input c d e r s p q = (one_list c.db r s p.1 q.1, same_kept c d e p.0 q.0)
-one_due (Ok (Extract stamp)) input c d e r s p q =
+    → (command ≡ Ok Run → ⊥) → Due command input c r d → Due command input c s e → (r ≡ s) × SameFiles d e
+one_due (Err bad) input c d e r s ran p q = (p.1 ∙ sym q.1, same_kept c d e p.0 q.0)
+one_due (Ok Run) input c d e r s ran p q = absurd (ran refl)
+one_due (Ok Version) input c d e r s ran p q = (p.1 ∙ sym q.1, same_kept c d e p.0 q.0)
+one_due (Ok Integ) input c d e r s ran p q = (one_list c.db r s p.1 q.1, same_kept c d e p.0 q.0)
+one_due (Ok (Extract stamp)) input c d e r s ran p q =
     (one_extract stamp.items c r s p.1 q.1, same_kept c d e p.0 q.0)
-one_due (Ok (Create block key value alloc ext limit)) input c d e r s p q =
+one_due (Ok (Create block key value alloc ext limit)) input c d e r s ran p q =
     one_created (header_with block key value alloc ext limit) c d e r s p q
 
 -- it can't be that no reply is due
 pub some_due : (command : Result Command BadWords) (input : List ℕ) (c : Contents)
-    → ((reply : Reply) (after : Contents) → Due command input c reply after → ⊥) → ⊥
-some_due (Err bad) input c none = none _ c (same_itself c, refl)
-some_due (Ok Run) input c none = none _ c (same_itself c, refl)
-some_due (Ok Version) input c none = none _ c (same_itself c, refl)
-some_due (Ok Integ) input c none = let found = some_list c.db in none found.0 c (same_itself c, found.1)
-some_due (Ok (Extract stamp)) input c none =
+    → (command ≡ Ok Run → ⊥) → ((reply : Reply) (after : Contents) → Due command input c reply after → ⊥) → ⊥
+some_due (Err bad) input c ran none = none _ c (same_itself c, refl)
+some_due (Ok Run) input c ran none = absurd (ran refl)
+some_due (Ok Version) input c ran none = none _ c (same_itself c, refl)
+some_due (Ok Integ) input c ran none = let found = some_list c.db in none found.0 c (same_itself c, found.1)
+some_due (Ok (Extract stamp)) input c ran none =
     none not_built c (
       same_itself c,
       inr (
@@ -127,7 +127,7 @@ some_due (Ok (Extract stamp)) input c none =
         refl,
       ),
     )
-some_due (Ok (Create block key value alloc ext limit)) input c none =
+some_due (Ok (Create block key value alloc ext limit)) input c ran none =
     let found = some_created (header_with block key value alloc ext limit) c in none found.0 found.1 found.2
 
 -- ---- the reply that is due was said

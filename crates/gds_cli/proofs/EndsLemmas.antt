@@ -1,16 +1,14 @@
 -- How a call ends: by a command that changes no file, and where nothing failed.
-use Rattle.std.proofs.Common.{◌≡◌, ◌⊎◌, ℕ, List, take, Option, Result, Ok, Err, IfOk, inl, inr, refl, ap, subst, sym}
+use Rattle.std.proofs.Common.{Bool, ◌≡◌, ℕ, List, take, Option, Result, Ok, IfOk, refl, ap, subst, sym}
 use Rattle.host_model.specs.Files.{Contents, saying}
-use Rattle.host_model.specs.Failures.{Failures, NoneRose}
 use Rattle.host_model.specs.Told.{TellsOn}
-use Rattle.host_model.proofs.FrameLemmas.{TellsOn-weaker}
+use Rattle.host_model.proofs.FrameLemmas.{TellsOn-same, TellsOn-weaker}
 use Rattle.gds_words.specs.declared.words.Command.{Command}
-use Rattle.gds_words.specs.declared.words.Command.TheVariants.{Version, Integ, Extract, Create, Run}
+use Rattle.gds_words.specs.declared.words.Command.TheVariants.{Extract, Create}
 use Rattle.gds_words.specs.declared.words.BadWords.{BadWords}
 use Rattle.gds_cli.specs.declared.status.Status.{Status}
-use Rattle.gds_cli.specs.declared.status.Status.TheVariants as ended
-use Rattle.gds_cli.specs.Status.{HasCause, MayEnd, is_break}
-use Rattle.gds_cli.specs.Answer.{Due, Ends, EndsAs, ExtractDue, LeavesFiles, Replies, Reply, SameFiles}
+use Rattle.gds_cli.specs.Status.{is_break}
+use Rattle.gds_cli.specs.Answer.{Ends, EndsAs, ExtractDue, Replies, Reply, SameFiles, SaysFront}
 use Rattle.gds_cli.specs.Answer.{IsRefusedOrEmpty, Leaves, created, header_with}
 use Rattle.std.specs.Option.{ForSome}
 use Rattle.host_model.specs.Moments.{EachLeft, LeavesOnly}
@@ -21,6 +19,9 @@ use Rattle.gds_words.specs.Words.{MakesHeader}
 use Rattle.gds_header.specs.Kinds.{IsWithinLimits}
 use Rattle.arrayvec.specs.ArrayVec.{ArrayVec}
 use Rattle.gds_cli.specs.Saying.{OnlySays}
+use Rattle.gds_lines.specs.LinesState.{IsEnd}
+use Rattle.std.specs.Prelude.{MatchBool}
+use Rattle.std.proofs.Common.{[], true}
 use Rattle.gds_cli.proofs.DueLemmas.{match_both}
 
 -- saying changes no file
@@ -31,8 +32,13 @@ same_said before after text is =
 abbrev pub Quietly : (Reply → Type 0) → Contents → Reply → Contents → Type 0
 Quietly due before reply after = SameFiles before after × due reply
 
+-- it ends by saying a reply, or breaks off and leaves the files as they are
+abbrev pub QuietEnds : (Reply → Type 0) → Status → Contents → Contents → Type 0
+QuietEnds due status before after =
+    EndsAs (Quietly due before) (SaysFront (Quietly due before) before after × SameFiles before after) status before after
+
 quiet_ends : (due : Reply → Type 0) (status : Status) (before after : Contents) → OnlySays due status before after
-    → EndsAs (Quietly due before) SameFiles status before after
+    → QuietEnds due status before after
 quiet_ends due status before after says =
     match_both (is_break status) _ _ _ _
     (λ
@@ -57,7 +63,7 @@ quiet_ends due status before after says =
 -- The words are a command that changes no file, and said one of the replies that are due.
 pub quietly : (told now : Option Contents) (command known : Result Command BadWords) (due : Contents → Reply → Type 0)
     (status : Status) → command ≡ known
-    → ((input : List ℕ) (before after : Contents) → EndsAs (Quietly (due before) before) SameFiles status before after
+    → ((input : List ℕ) (before after : Contents) → QuietEnds (due before) status before after
     → Ends known input status before after)
     → TellsOn told now (λ before after. OnlySays (due before) status before after)
     → (input : List ℕ) → TellsOn told now (Ends command input status)
@@ -96,69 +102,22 @@ module _ (command : Result Command BadWords) (block key value alloc ext limit : 
       subst P (sym is) (subst Q same ends)
 
   pub create_leaves : {H : Type 0} {moment : H → ℕ} {left_since : H → ℕ → Contents → Type 0} (host now : H)
-      (told : Option Contents)
+      (told : Option Contents) (input : List ℕ)
       → ForSome told (λ before. EachLeft moment left_since host IsEmpty
       → LeavesOnly moment left_since host now (IsRefusedOrEmpty (created h.total).text before))
-      → ForSome told (Leaves moment left_since command host now)
-  create_leaves {H} {moment} {left_since} host now told leaves before tells =
-      let P : Result Command BadWords → Type 0 = λ k. Leaves moment left_since k host now before in
+      → ForSome told (Leaves moment left_since command input host now)
+  create_leaves {H} {moment} {left_since} host now told input leaves before tells =
+      let P : Result Command BadWords → Type 0 = λ k. Leaves moment left_since k input host now before in
       let Q : Header → Type 0 = λ x. EachLeft moment left_since host IsEmpty
       → LeavesOnly moment left_since host now (IsRefusedOrEmpty (created x.total).text before) in
       subst P (sym is) (subst Q same (leaves before tells))
 
--- ---- where nothing failed
+-- a call that broke off
+pub breaks_as : (due : Reply → Contents → Type 0) (broken : Type 0) (status : Status) (before after : Contents)
+    → is_break status ≡ true → broken → EndsAs due broken status before after
+breaks_as due broken status before after is so =
+    let P : Bool → Type 0 = λ b. MatchBool b broken (Replies due status before after) in subst P (sym is) so
 
-ends_whole : (due : Reply → Contents → Type 0) (leaves : Contents → Contents → Type 0) (status : Status)
-    (before after : Contents) → EndsAs due leaves status before after
-    → (status ≡ ended.ReadFault → ⊥) → (status ≡ ended.WriteFault → ⊥) → (status ≡ ended.SayFault → ⊥)
-    → (status ≡ ended.InputFault → ⊥) → (status ≡ ended.InputTooLong → ⊥)
-    → (status ≡ ended.Memory) ⊎ Replies due status before after
-ends_whole due leaves ended.Memory before after e read write say input long = inl refl
-ends_whole due leaves ended.ReadFault before after e read write say input long = absurd (read refl)
-ends_whole due leaves ended.WriteFault before after e read write say input long = absurd (write refl)
-ends_whole due leaves ended.SayFault before after e read write say input long = absurd (say refl)
-ends_whole due leaves ended.InputFault before after e read write say input long = absurd (input refl)
-ends_whole due leaves ended.InputTooLong before after e read write say input long = absurd (long refl)
-ends_whole due leaves other before after e read write say input long = inr e
-
-no_input_fault : (command : Result Command BadWords) → MayEnd command ended.InputFault → ⊥
-no_input_fault (Err bad) may = may
-no_input_fault (Ok Version) may = may
-no_input_fault (Ok Integ) may = may
-no_input_fault (Ok Run) may = may
-no_input_fault (Ok (Extract stamp)) may = may
-no_input_fault (Ok (Create block key value alloc ext limit)) may = may
-
-no_long_input : (command : Result Command BadWords) → MayEnd command ended.InputTooLong → ⊥
-no_long_input (Err bad) may = may
-no_long_input (Ok Version) may = may
-no_long_input (Ok Integ) may = may
-no_long_input (Ok Run) may = may
-no_long_input (Ok (Extract stamp)) may = may
-no_long_input (Ok (Create block key value alloc ext limit)) may = may
-
-complete_read : (told now : Option Contents) (command : Result Command BadWords) (input : List ℕ) (status : Status)
-    (f g : Failures) → TellsOn told now (Ends command input status) → MayEnd command status → HasCause status f g
-    → NoneRose f g
-    → TellsOn told now (λ before after.
-    (status ≡ ended.Memory) ⊎ Replies (Due command input before) status before after)
-complete_read told now command input status f g ends may cause none =
-    TellsOn-weaker told now (Ends command input status)
-    (λ before after. (status ≡ ended.Memory) ⊎ Replies (Due command input before) status before after)
-    (λ before after e.
-    ends_whole (Due command input before) (LeavesFiles command status) status before after e (λ is. none.read (cause.read_fault is))
-    (λ is. none.write (cause.write_fault is)) (λ is. none.say (cause.say_fault is))
-    (λ is. no_input_fault command (subst (MayEnd command) is may))
-    (λ is. no_long_input command (subst (MayEnd command) is may)))
-    ends
-
--- the words were read as this command
-pub complete : (told now : Option Contents) (read command : Result Command BadWords) → read ≡ command
-    → (input : List ℕ) (status : Status) (f g : Failures) → TellsOn told now (Ends read input status)
-    → MayEnd read status → HasCause status f g → NoneRose f g
-    → TellsOn told now (λ before after.
-    (status ≡ ended.Memory) ⊎ Replies (Due command input before) status before after)
-complete told now read command is input status f g ends may cause none =
-    let P : Result Command BadWords → Type 0 = λ k. TellsOn told now (λ before after.
-    (status ≡ ended.Memory) ⊎ Replies (Due k input before) status before after) in
-    subst P is (complete_read told now read input status f g ends may cause none)
+-- no input was taken
+pub all_left : (left : Option (List ℕ)) → TellsOn left left IsEnd
+all_left left = TellsOn-same left left IsEnd (λ text. ([], refl)) refl

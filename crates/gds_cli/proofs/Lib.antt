@@ -8,6 +8,7 @@ mod ExtractLemmas
 mod DueLemmas
 mod EndsLemmas
 mod CreateLemmas
+mod RunLemmas
 mod FaultsDueLemmas
 mod FaultLineLemmas
 pub mod LeafRecordLemmas

@@ -1,17 +1,21 @@
 -- What each command says, how it ends, and what it leaves of the two files, at its end and at each moment.
-use Rattle.std.specs.Prelude.{◌≡◌, ◌≢◌, ◌⊎◌, ℕ, MatchBool, List, [], ◌∷◌, ◌++◌, take, replicate, Result, Ok, Err}
+use Rattle.std.specs.Prelude.{◌≡◌, ◌≢◌, ◌⊎◌, ℕ, MatchBool, List, [], ◌∷◌, ◌++◌, take, length, replicate, Result, Ok, Err}
 use Rattle.std.specs.Prelude.{Option, Some, codes}
 use Rattle.std.specs.Fmt.{decimal}
 use Rattle.std.specs.FinMap.{empty}
 use Rattle.host_model.specs.Files.{Contents}
 use Rattle.host_model.specs.Moments.{EachLeft, LeavesOnly}
 use Rattle.gds_header.specs.declared.header.Header.{Header}
+use Rattle.gds_images.specs.Chain.{chain_of}
 use Rattle.gds_images.specs.Recovered.{recovered}
 use Rattle.gds_new.specs.NewDatabase.{new_database}
 use Rattle.gds_create.specs.Newborn.{HasBytes, IsEmpty, IsRefused, closed_images}
 use Rattle.gds_law.specs.declared.fault.Fault.{Fault}
 use Rattle.gds_law.specs.Faults.{AreFaults}
 use Rattle.gds_sound.specs.Stands.{StandsFor}
+use Rattle.gds_opening.specs.Opening.{FindsFaults}
+use Rattle.gds_script.specs.Answer.{answer_lines}
+use Rattle.gds_run.specs.Run.{Breaks, IsRun, LeavesPrefixes}
 use Rattle.m_key.specs.Globals.{Globals}
 use Rattle.m_text.specs.Extract.{zwr}
 use Rattle.gds_cli.specs.FaultText.{fault_text}
@@ -101,8 +105,28 @@ CreateDue h before reply after =
     (BecomesNew h before after × (reply ≡ created h.total))
     ⊎ (HasBytes before × SameFiles before after × (reply ≡ not_empty))
 
+-- where the file of images is damaged, and how many faults the recovered database has
+abbrev pub bad_images : ℕ → Reply
+bad_images at = record { text = line (codes "BADIMAGES " ++ decimal at); status = ended.BadImages }
+
+abbrev pub unsound : ℕ → Reply
+unsound faults = record { text = line (codes "UNSOUND " ++ decimal faults); status = ended.Unsound }
+
+-- Why the files can't be opened.
+abbrev pub RefusalDue : Contents → Reply → Type 0
+RefusalDue c reply =
+    ((at : ℕ) × (chain_of c.images (length c.db) ≡ Err at) × (reply ≡ bad_images at))
+    ⊎ ((faults : ℕ) × (faults ≢ 0) × FindsFaults faults c × (reply ≡ unsound faults))
+
+-- RUN answers each line of its input by a line, and leaves the database that the changes lead to. Where the files can't
+-- be opened it says why, and the next opening finds what it would have found.
+abbrev pub RunDue : List ℕ → Contents → Reply → Contents → Type 0
+RunDue input before reply after =
+    ((run : IsRun input before after) × (reply ≡ record { text = answer_lines run.answers; status = ended.Done }))
+    ⊎ (RefusalDue before reply × (recovered after.db after.images ≡ recovered before.db before.images))
+
 -- Which reply is due for the words, where the host holds this before and the input has this text, and what the files
--- hold once it is said. RUN isn't built yet: its name is a word that doesn't fit.
+-- hold once it is said.
 abbrev pub Due : Result Command BadWords → List ℕ → Contents → Reply → Contents → Type 0
 Due (Err bad) input before reply after = SameFiles before after × (reply ≡ bad_words bad.place)
 Due (Ok Version) input before reply after = SameFiles before after × (reply ≡ version)
@@ -110,7 +134,7 @@ Due (Ok Integ) input before reply after = SameFiles before after × FaultsDue be
 Due (Ok (Extract stamp)) input before reply after = SameFiles before after × ExtractDue stamp.items before reply
 Due (Ok (Create block key value alloc ext limit)) input before reply after =
     CreateDue (header_with block key value alloc ext limit) before reply after
-Due (Ok Run) input before reply after = SameFiles before after × (reply ≡ bad_words 0)
+Due (Ok Run) input before reply after = RunDue input before reply after
 
 -- ---- how a call ends
 
@@ -127,26 +151,38 @@ pub record SaysFront (due : Reply → Contents → Type 0) (before after : Conte
   pub says : after.said ≡ before.said ++ text
   pub front : (reply : Reply) (later : Contents) → due reply later → (n : ℕ) × (text ≡ take n reply.text)
 
--- What a call that broke off leaves of the files: CREATE, but where a write failed, both as they were or the new
--- database. The other commands change no file.
+-- Where CREATE breaks off, and no write failed, both files are as they were, or are the new database.
 abbrev pub AllOrNothing : Header → Status → Contents → Contents → Type 0
 AllOrNothing h status before after = status ≢ ended.WriteFault → SameFiles before after ⊎ BecomesNew h before after
 
-abbrev pub LeavesFiles : Result Command BadWords → Status → Contents → Contents → Type 0
-LeavesFiles (Ok (Create block key value alloc ext limit)) status before after =
-    AllOrNothing (header_with block key value alloc ext limit) status before after
-LeavesFiles command status before after = SameFiles before after
+abbrev pub CreateBreaksOff : Header → Status → Contents → Contents → Type 0
+CreateBreaksOff h status before after =
+    SaysFront (CreateDue h before) before after × AllOrNothing h status before after
 
--- A call ends where a reply is due by saying it, or breaks off and leaves the files so.
-abbrev pub EndsAs : (Reply → Contents → Type 0) → (Contents → Contents → Type 0) → Status → Contents → Contents
-    → Type 0
-EndsAs due leaves status before after =
-    MatchBool (is_break status) (SaysFront due before after × leaves before after) (Replies due status before after)
+-- Where RUN breaks off, nothing was said; or it answered some first lines of the input, and some first bytes of the
+-- answers were said; or it said some first bytes of why the files can't be opened. What the files hold is among what a
+-- crash leaves.
+abbrev pub RunBreaksOff : List ℕ → Contents → Contents → Type 0
+RunBreaksOff input before after =
+    Breaks input before after
+    ⊎ ((reply : Reply) × RefusalDue before reply × (n : ℕ) × (after.said ≡ before.said ++ take n reply.text))
+
+-- The other commands leave both files as they are.
+abbrev pub BreaksOff : Result Command BadWords → List ℕ → Status → Contents → Contents → Type 0
+BreaksOff (Ok Run) input status before after = RunBreaksOff input before after
+BreaksOff (Ok (Create block key value alloc ext limit)) input status before after =
+    CreateBreaksOff (header_with block key value alloc ext limit) status before after
+BreaksOff command input status before after =
+    SaysFront (Due command input before) before after × SameFiles before after
+
+-- A call says a reply that is due, or breaks off so.
+abbrev pub EndsAs : (Reply → Contents → Type 0) → Type 0 → Status → Contents → Contents → Type 0
+EndsAs due broken status before after = MatchBool (is_break status) broken (Replies due status before after)
 
 -- How a call ends over a host that tells what it holds.
 abbrev pub Ends : Result Command BadWords → List ℕ → Status → Contents → Contents → Type 0
 Ends command input status before after =
-    EndsAs (Due command input before) (LeavesFiles command status) status before after
+    EndsAs (Due command input before) (BreaksOff command input status before after) status before after
 
 -- The input has this text. The commands that read none are asked for nothing.
 abbrev pub IsGiven : Result Command BadWords → Option (List ℕ) → List ℕ → Type 0
@@ -167,9 +203,12 @@ pub record IsRefusedOrEmpty (text : List ℕ) (before c : Contents) : Type 0 whe
   pub said : (n : ℕ) × (c.said ≡ before.said ++ take n text)
 
 module _ {H : Type 0} (moment : H → ℕ) (left_since : H → ℕ → Contents → Type 0) where
-  -- What a crash at any moment of the call leaves. Of CREATE it is said where a crash before left two empty files.
-  abbrev pub Leaves : Result Command BadWords → H → H → Contents → Type 0
-  Leaves (Ok (Create block key value alloc ext limit)) host now before =
+  -- What a crash at any moment of the call leaves. Of CREATE it is said where a crash before left two empty files. In a
+  -- RUN, from when both files are stable, it leaves the map after a prefix of the answered changes, with all those that
+  -- the last line `EPOCH n` tells.
+  abbrev pub Leaves : Result Command BadWords → List ℕ → H → H → Contents → Type 0
+  Leaves (Ok Run) input host now before = LeavesPrefixes moment left_since input before host now
+  Leaves (Ok (Create block key value alloc ext limit)) input host now before =
       EachLeft moment left_since host IsEmpty
       → LeavesOnly moment left_since host now (IsRefusedOrEmpty (created alloc).text before)
-  Leaves command host now before = Unit {0}
+  Leaves command input host now before = Unit {0}

@@ -8,4 +8,5 @@ pub mod FaultText
 pub mod Answer
 pub mod Saying
 pub mod Create
+pub mod Run
 pub mod Extract

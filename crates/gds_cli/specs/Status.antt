@@ -41,19 +41,26 @@ is_break ended.InputTooLong = true
 is_break other = false
 
 -- Which endings the words may have, whatever the device does. Only a file that is read can meet a failure of reading or
--- a change, and only one that is made a failure of writing; only a text that is put together wants memory.
+-- a change, and only one that is written a failure of writing; only a text that is put together wants memory.
 abbrev pub MayEnd : Result Command BadWords → Status → Type 0
 MayEnd command ended.SayFault = Unit {0}
 MayEnd (Err bad) ended.BadWords = Unit {0}
 MayEnd (Err bad) ended.Memory = Unit {0}
-MayEnd (Ok Run) ended.BadWords = Unit {0}
-MayEnd (Ok Run) ended.Memory = Unit {0}
 MayEnd (Ok Version) ended.Done = Unit {0}
 MayEnd (Ok (Create block key value alloc ext limit)) ended.Done = Unit {0}
 MayEnd (Ok (Create block key value alloc ext limit)) ended.NotEmpty = Unit {0}
 MayEnd (Ok (Create block key value alloc ext limit)) ended.ReadFault = Unit {0}
 MayEnd (Ok (Create block key value alloc ext limit)) ended.WriteFault = Unit {0}
 MayEnd (Ok (Create block key value alloc ext limit)) ended.Memory = Unit {0}
+MayEnd (Ok Run) ended.Done = Unit {0}
+MayEnd (Ok Run) ended.BadImages = Unit {0}
+MayEnd (Ok Run) ended.Unsound = Unit {0}
+MayEnd (Ok Run) ended.Changed = Unit {0}
+MayEnd (Ok Run) ended.ReadFault = Unit {0}
+MayEnd (Ok Run) ended.WriteFault = Unit {0}
+MayEnd (Ok Run) ended.InputFault = Unit {0}
+MayEnd (Ok Run) ended.InputTooLong = Unit {0}
+MayEnd (Ok Run) ended.Memory = Unit {0}
 MayEnd (Ok Integ) ended.Unsound = Unit {0}
 MayEnd (Ok Integ) ended.Done = Unit {0}
 MayEnd (Ok Integ) ended.Changed = Unit {0}
@@ -69,9 +76,9 @@ MayEnd command other = ⊥
 -- the commands that touch no file, so that they ask the host for their saying alone
 abbrev pub TouchesNoFile : Result Command BadWords → Type 0
 TouchesNoFile (Err bad) = Unit {0}
-TouchesNoFile (Ok Run) = Unit {0}
 TouchesNoFile (Ok Version) = Unit {0}
 TouchesNoFile (Ok (Create block key value alloc ext limit)) = ⊥
+TouchesNoFile (Ok Run) = ⊥
 TouchesNoFile (Ok Integ) = ⊥
 TouchesNoFile (Ok (Extract stamp)) = ⊥
 

@@ -5,7 +5,7 @@ ghost use Rattle.gds_cli.specs.Status.{HasCause, MayEnd};
 ghost use Rattle.gds_cli.specs.Answer.{ExtractDue};
 ghost use Rattle.gds_cli.specs.Saying.{OnlySays};
 
-use crate::saying::say;
+use crate::saying::{say, say_number};
 use crate::status::Status;
 use crate::thin::{self, Trouble};
 use host_model::Host;
@@ -24,9 +24,6 @@ pub(crate) fn extract<H: Host>(alloc: Global, host: &mut H, stamp: &[u8]) -> Sta
         Err(Trouble::Memory) => Status::Memory,
         Err(Trouble::Read) => Status::ReadFault,
         Err(Trouble::Say) => Status::SayFault,
-        Err(Trouble::Changed { unit }) => match format!(in alloc; "CHANGED {unit}\n") {
-            Ok(text) => say(host, text.as_str(), Status::Changed),
-            Err(_) => Status::Memory,
-        },
+        Err(Trouble::Changed { unit }) => say_number(alloc, host, "CHANGED", unit, Status::Changed),
     }
 }

@@ -12,7 +12,7 @@ ghost use Rattle.gds_cli.specs.Extract.{SaidOf, SaysOn};
 ghost use Rattle.gds_cli.specs.FaultText.{fault_text};
 
 use crate::fault_text::{write_count, write_fault};
-use crate::saying::say;
+use crate::saying::say_number;
 use crate::status::Status;
 use gds_law::{Fault, SinkTrouble};
 use host_model::Host;
@@ -46,13 +46,16 @@ pub(crate) fn tell_faults<H: Host>(alloc: Global, host: H) -> (Status, H)
         Err(IntegError::Memory) => (Status::Memory, host),
         Err(IntegError::ReadFault) => (Status::ReadFault, host),
         Err(IntegError::SayFault) => (Status::SayFault, host),
-        Err(IntegError::Changed { unit }) => match format!(in alloc; "CHANGED {unit}\n") {
-            Ok(text) => {
-                let status = say(&mut host, text.as_str(), Status::Changed);
-                (status, host)
-            }
-            Err(_) => (Status::Memory, host),
-        },
+        Err(IntegError::Changed { unit }) => {
+            let status = say_number(
+                alloc,
+                &mut host,
+                "CHANGED",
+                u64::from(unit),
+                Status::Changed,
+            );
+            (status, host)
+        }
     }
 }
 

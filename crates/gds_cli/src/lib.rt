@@ -7,6 +7,7 @@ mod extract;
 mod fault_list;
 mod fault_text;
 mod laws;
+mod run;
 mod saying;
 mod status;
 mod thin;
