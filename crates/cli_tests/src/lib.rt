@@ -6,6 +6,8 @@ mod answers;
 #[cfg(test)]
 mod changes;
 #[cfg(test)]
+mod creation;
+#[cfg(test)]
 mod failures;
 #[cfg(test)]
 mod faults;

@@ -1,11 +1,10 @@
 -- Which reply is due, and how a call that says it ends.
-use Rattle.std.proofs.Common.{◌≡◌, ◌⊎◌, ℕ, Bool, true, false, List, [], take, Option, None, Some, IfSome, Result, Ok}
+use Rattle.std.proofs.Common.{◌<◌, ◌∷◌, arith, length}
+use Rattle.std.proofs.Common.{◌≡◌, ◌⊎◌, ℕ, Bool, true, false, List, [], take, Option, None, Some, Result, Ok}
 use Rattle.std.proofs.Common.{Err, ⊎_elim, inl, inr, refl, sym, ap, subst, ◌∙◌, append-nil}
 use Rattle.std.specs.Prelude.{MatchBool, IsSomeAnd}
 use Rattle.std.specs.Option.{ForSome}
-use Rattle.arrayvec.specs.ArrayVec.{ArrayVec}
 use Rattle.host_model.specs.Files.{Contents, saying}
-use Rattle.host_model.specs.Failures.{Failures, NoneRose}
 use Rattle.host_model.specs.Told.{TellsOn}
 use Rattle.m_key.specs.Globals.{Globals}
 use Rattle.m_text.specs.Extract.{zwr}
@@ -14,13 +13,17 @@ use Rattle.gds_words.specs.declared.words.Command.TheVariants.{Version, Integ, E
 use Rattle.gds_words.specs.declared.words.BadWords.{BadWords}
 use Rattle.gds_cli.specs.declared.status.Status.{Status}
 use Rattle.gds_cli.specs.declared.status.Status.TheVariants as ended
-use Rattle.gds_cli.specs.Status.{HasCause}
+use Rattle.gds_cli.specs.Status.{is_break}
 use Rattle.gds_law.specs.declared.fault.Fault.{Fault}
 use Rattle.gds_law.specs.Faults.{AreFaults}
 use Rattle.gds_law.proofs.KeptLemmas.{one_fault_list}
 use Rattle.gds_cli.specs.Thin.{IsThinWith}
-use Rattle.gds_cli.specs.Answer.{Reply, Answers, SaysFront, Due, Ends, ExtractDue, FaultsDue, list_reply, not_built}
-use Rattle.gds_cli.specs.Answer.{is_break}
+use Rattle.gds_cli.specs.Answer.{BecomesNew, CreateDue, Due, ExtractDue, FaultsDue, Reply, SameFiles, created}
+use Rattle.gds_cli.specs.Answer.{header_with, list_reply, not_built, not_empty}
+use Rattle.gds_cli.specs.Saying.{Answers, OnlySays, SaysFrontOf}
+use Rattle.gds_create.specs.Newborn.{HasBytes, IsEmpty, closed_images}
+use Rattle.gds_header.specs.declared.header.Header.{Header}
+use Rattle.gds_new.specs.NewDatabase.{new_database}
 use Rattle.gds_cli.specs.Extract.{BreaksOff, SaysThin}
 use Rattle.gds_cli.proofs.LeafLemmas.{one_map}
 
@@ -50,29 +53,86 @@ one_list image r s p q = p.2 ∙ ap list_reply ((one_fault_list image).1 p.0 q.0
 some_list : (image : List ℕ) → (reply : Reply) × FaultsDue image reply
 some_list image = let found = (one_fault_list image).0 in (list_reply found.0, (found.0, found.1, refl))
 
-pub one_due : (command : Result Command BadWords) (c : Contents) (r s : Reply) → Due command c r → Due command c s
-    → r ≡ s
-one_due (Err bad) c r s p q = p ∙ sym q
-one_due (Ok (Create block key value alloc ext limit)) c r s p q = p ∙ sym q
-one_due (Ok Run) c r s p q = p ∙ sym q
-one_due (Ok Version) c r s p q = p ∙ sym q
-one_due (Ok Integ) c r s p q = one_list c.db r s p q
-one_due (Ok (Extract stamp)) c r s p q = one_extract stamp.items c r s p q
+-- files that are as they were are the same
+same_kept : (c d e : Contents) → SameFiles c d → SameFiles c e → SameFiles d e
+same_kept c d e first second =
+    record { db = second.db ∙ sym first.db; images = second.images ∙ sym first.images }
+
+same_new : (h : Header) (c d e : Contents) → BecomesNew h c d → BecomesNew h c e → SameFiles d e
+same_new h c d e first second =
+    record { db = second.db ∙ sym first.db; images = second.images ∙ sym first.images }
+
+pub not_both : (c : Contents) → IsEmpty c → HasBytes c → ⊥
+not_both c empty some =
+    ⊎_elim (λ (db : 0 < length c.db). let none = empty.db in let zero = ap length none in omega arith)
+    (λ (images : 0 < length c.images). let none = empty.images in let zero = ap length none in omega arith)
+    some
+
+one_created : (h : Header) (c d e : Contents) (r s : Reply) → CreateDue h c r d → CreateDue h c s e
+    → (r ≡ s) × SameFiles d e
+one_created h c d e r s p q =
+    ⊎_elim
+    (λ (a : BecomesNew h c d × (r ≡ created h.total)).
+    ⊎_elim (λ (b : BecomesNew h c e × (s ≡ created h.total)). (a.1 ∙ sym b.1, same_new h c d e a.0 b.0))
+    (λ (b : HasBytes c × SameFiles c e × (s ≡ not_empty)). absurd (not_both c a.0.empty b.0)) q)
+    (λ (a : HasBytes c × SameFiles c d × (r ≡ not_empty)).
+    ⊎_elim (λ (b : BecomesNew h c e × (s ≡ created h.total)). absurd (not_both c b.0.empty a.0))
+    (λ (b : HasBytes c × SameFiles c e × (s ≡ not_empty)). (a.2 ∙ sym b.2, same_kept c d e a.1 b.1)) q)
+    p
+
+-- Both files are empty, or one has bytes.
+some_bytes : (db images : List ℕ) → ((db ≡ []) × (images ≡ [])) ⊎ ((0 < length db) ⊎ (0 < length images))
+some_bytes [] [] = inl (refl, refl)
+some_bytes [] (b ∷ images) = inr (inr (omega arith))
+some_bytes (b ∷ db) images = inr (inl (omega arith))
+
+same_itself : (c : Contents) → SameFiles c c
+same_itself c = record { db = refl; images = refl }
+
+some_created : (h : Header) (c : Contents) → (reply : Reply) × (after : Contents) × CreateDue h c reply after
+some_created h c =
+    ⊎_elim
+    (λ (none : (c.db ≡ []) × (c.images ≡ [])). (
+      created h.total,
+      record { db = new_database h; images = closed_images; said = [] },
+      inl (record { empty = record { db = none.0; images = none.1 }; db = refl; images = refl }, refl),
+    ))
+    (λ (bytes : (0 < length c.db) ⊎ (0 < length c.images)). (not_empty, c, inr (bytes, same_itself c, refl)))
+    (some_bytes c.db c.images)
+
+pub one_due : (command : Result Command BadWords) (input : List ℕ) (c d e : Contents) (r s : Reply)
+    → (command ≡ Ok Run → ⊥) → Due command input c r d → Due command input c s e → (r ≡ s) × SameFiles d e
+one_due (Err bad) input c d e r s ran p q = (p.1 ∙ sym q.1, same_kept c d e p.0 q.0)
+one_due (Ok Run) input c d e r s ran p q = absurd (ran refl)
+one_due (Ok Version) input c d e r s ran p q = (p.1 ∙ sym q.1, same_kept c d e p.0 q.0)
+one_due (Ok Integ) input c d e r s ran p q = (one_list c.db r s p.1 q.1, same_kept c d e p.0 q.0)
+one_due (Ok (Extract stamp)) input c d e r s ran p q =
+    (one_extract stamp.items c r s p.1 q.1, same_kept c d e p.0 q.0)
+one_due (Ok (Create block key value alloc ext limit)) input c d e r s ran p q =
+    one_created (header_with block key value alloc ext limit) c d e r s p q
 
 -- it can't be that no reply is due
-pub some_due : (command : Result Command BadWords) (c : Contents) → ((reply : Reply) → Due command c reply → ⊥) → ⊥
-some_due (Err bad) c none = none _ refl
-some_due (Ok (Create block key value alloc ext limit)) c none = none _ refl
-some_due (Ok Run) c none = none _ refl
-some_due (Ok Version) c none = none _ refl
-some_due (Ok Integ) c none = let found = some_list c.db in none found.0 found.1
-some_due (Ok (Extract stamp)) c none =
-    none not_built
-    (inr (λ m thin. none (record { text = zwr m stamp.items; status = ended.Done }) (inl (m, thin, refl)), refl))
+pub some_due : (command : Result Command BadWords) (input : List ℕ) (c : Contents)
+    → (command ≡ Ok Run → ⊥) → ((reply : Reply) (after : Contents) → Due command input c reply after → ⊥) → ⊥
+some_due (Err bad) input c ran none = none _ c (same_itself c, refl)
+some_due (Ok Run) input c ran none = absurd (ran refl)
+some_due (Ok Version) input c ran none = none _ c (same_itself c, refl)
+some_due (Ok Integ) input c ran none = let found = some_list c.db in none found.0 c (same_itself c, found.1)
+some_due (Ok (Extract stamp)) input c ran none =
+    none not_built c (
+      same_itself c,
+      inr (
+        λ m thin. none (record { text = zwr m stamp.items; status = ended.Done }) c
+            (same_itself c, inl (m, thin, refl)),
+        refl,
+      ),
+    )
+some_due (Ok (Create block key value alloc ext limit)) input c ran none =
+    let found = some_created (header_with block key value alloc ext limit) c in none found.0 found.1 found.2
 
 -- ---- the reply that is due was said
 
-match_both : (b : Bool) (A B C D : Type 0) → (A → C) → (B → D) → MatchBool b A B → MatchBool b C D
+pub match_both : (b : Bool) (A B C D : Type 0) → (A → C) → (B → D) → MatchBool b A B → MatchBool b C D
 match_both true A B C D f g m = f m
 match_both false A B C D f g m = g m
 
@@ -81,10 +141,10 @@ some_and None A B so known = known
 some_and (Some x) A B so known = so x known
 
 ends_of : (due : Reply → Type 0) (reply : Reply) (status : Status) (before after : Contents) → due reply
-    → ((r : Reply) → due r → r ≡ reply) → Answers reply status before after → Ends due status before after
+    → ((r : Reply) → due r → r ≡ reply) → Answers reply status before after → OnlySays due status before after
 ends_of due reply status before after is only answered =
     match_both (is_break status) _ _ _ _
-    (λ (front : SaysFront reply.text before after). (
+    (λ (front : SaysFrontOf reply.text before after). (
       take front.0 reply.text,
       front.1,
       λ (r : Reply) (d : due r).
@@ -101,42 +161,20 @@ pub record IsDueAt (mid : Option Contents) (due : Reply → Type 0) (reply : Rep
 
 pub goes_ends : (told mid now : Option Contents) (due : Contents → Reply → Type 0) (reply : Reply) (status : Status)
     → ForSome told (λ c. IsDueAt mid (due c) reply c) → TellsOn mid now (Answers reply status)
-    → TellsOn told now (λ before after. Ends (due before) status before after)
+    → TellsOn told now (λ before after. OnlySays (due before) status before after)
 goes_ends None mid now due reply status known answered = tt
 goes_ends (Some c) mid now due reply status known answered =
     let at = known c refl in
     let P : Option Contents → Type 0 = λ o. TellsOn o now (Answers reply status) in
-    some_and now (Answers reply status c) (λ d. Ends (due c) status c d)
+    some_and now (Answers reply status c) (λ d. OnlySays (due c) status c d)
     (λ d. ends_of (due c) reply status c d at.is at.only) (subst P at.same answered)
 
--- the words are known, and the reply that is due for them was said
-pub goes_reply : (told now : Option Contents) (command known : Result Command BadWords) (reply : Reply)
-    (status : Status) → command ≡ known → ((c : Contents) → Due known c reply) → TellsOn told now (Answers reply status)
-    → TellsOn told now (λ before after. Ends (Due command before) status before after)
-goes_reply told now command known reply status is due answered =
-    let P : Result Command BadWords → Type 0 =
-    λ k. TellsOn told now (λ before after. Ends (Due k before) status before after) in
-    subst P (sym is)
-    (goes_ends told told now (Due known) reply status
-    (λ c tells. record { same = tells; is = due c; only = λ r d. one_due known c r reply d (due c) }) answered)
-
-pub goes_extract : (told now : Option Contents) (command : Result Command BadWords) (stamp : ArrayVec ℕ) (text : List ℕ)
-    (status : Status) → command ≡ Ok (Extract stamp) → text ≡ stamp.items
-    → TellsOn told now (λ before after. Ends (ExtractDue text before) status before after)
-    → TellsOn told now (λ before after. Ends (Due command before) status before after)
-goes_extract told now command stamp text status is same ends =
-    let P : Result Command BadWords → Type 0 =
-    λ k. TellsOn told now (λ before after. Ends (Due k before) status before after) in
-    let Q : List ℕ → Type 0 = λ t. TellsOn told now (λ before after. Ends (ExtractDue t before) status before after) in
-    subst P (sym is) (subst Q same ends)
-
-pub goes_faults : (told now : Option Contents) (command : Result Command BadWords) (status : Status)
-    → command ≡ Ok Integ → TellsOn told now (λ before after. Ends (FaultsDue before.db) status before after)
-    → TellsOn told now (λ before after. Ends (Due command before) status before after)
-goes_faults told now command status is ends =
-    let P : Result Command BadWords → Type 0 =
-    λ k. TellsOn told now (λ before after. Ends (Due k before) status before after) in
-    subst P (sym is) ends
+-- one reply alone is due, and it was said
+pub goes_reply : (told now : Option Contents) (reply : Reply) (status : Status) → TellsOn told now (Answers reply status)
+    → TellsOn told now (λ before after. OnlySays (λ r. r ≡ reply) status before after)
+goes_reply told now reply status answered =
+    goes_ends told told now (λ c r. r ≡ reply) reply status
+    (λ c tells. record { same = tells; is = refl; only = λ r d. d }) answered
 
 -- the list of the file's faults is the one that is due
 pub list_due : (told mid : Option Contents) (faults : List Fault) → mid ≡ told
@@ -148,7 +186,7 @@ list_due told mid faults same are c tells =
 
 -- nothing was said
 pub goes_silent : (told : Option Contents) (due : Contents → Reply → Type 0)
-    → TellsOn told told (λ before after. Ends (due before) ended.Memory before after)
+    → TellsOn told told (λ before after. OnlySays (due before) ended.Memory before after)
 goes_silent None due = tt
 goes_silent (Some c) due = (
   [],
@@ -169,9 +207,9 @@ goes_on (Some c) now R known =
     let p = known c refl in let P : Option Contents → Type 0 = λ o. IsSomeAnd o (R c) in subst P (sym p.1) p.2
 
 pub extract_done : (told now : Option Contents) (stamp : List ℕ) → ForSome told (λ c. SaysThin stamp c true now)
-    → TellsOn told now (λ before after. Ends (ExtractDue stamp before) ended.Done before after)
+    → TellsOn told now (λ before after. OnlySays (ExtractDue stamp before) ended.Done before after)
 extract_done told now stamp known =
-    goes_on told now (λ before after. Ends (ExtractDue stamp before) ended.Done before after) (λ c tells.
+    goes_on told now (λ before after. OnlySays (ExtractDue stamp before) ended.Done before after) (λ c tells.
     let p = known c tells in (
       saying c (zwr p.0 stamp),
       p.2,
@@ -197,9 +235,9 @@ extract_other told mid stamp known c tells =
 -- the work broke off
 pub goes_broken : (told now : Option Contents) (due : Contents → Reply → Type 0) (status : Status)
     → is_break status ≡ true → ForSome told (λ c. BreaksOff c (due c) now)
-    → TellsOn told now (λ before after. Ends (due before) status before after)
+    → TellsOn told now (λ before after. OnlySays (due before) status before after)
 goes_broken told now due status is known =
-    goes_on told now (λ before after. Ends (due before) status before after) (λ c tells.
+    goes_on told now (λ before after. OnlySays (due before) status before after) (λ c tells.
     let b = known c tells in
     let P : Bool → Type 0 = λ t. MatchBool t
     ((said : List ℕ) × (saying c b.said ≡ saying c said)
@@ -210,30 +248,10 @@ goes_broken told now due status is known =
 -- it broke off before a byte was said
 pub goes_quiet : (told now : Option Contents) (due : Contents → Reply → Type 0) (status : Status)
     → is_break status ≡ true → now ≡ told
-    → TellsOn told now (λ before after. Ends (due before) status before after)
+    → TellsOn told now (λ before after. OnlySays (due before) status before after)
 goes_quiet told now due status is same =
     goes_broken told now due status is (λ c tells. record {
       said = [];
       told = same ∙ tells ∙ ap (λ (said : List ℕ). Some (record c { said = said })) (sym (append-nil c.said));
       front = λ reply d. (0, refl);
     })
-
--- ---- where no fault came
-
-ends_whole : (due : Reply → Type 0) (status : Status) (before after : Contents) → Ends due status before after
-    → (status ≡ ended.ReadFault → ⊥) → (status ≡ ended.SayFault → ⊥)
-    → (status ≡ ended.Memory)
-    ⊎ ((reply : Reply) × due reply × (status ≡ reply.status) × (Some after ≡ Some (saying before reply.text)))
-ends_whole due ended.Memory before after e read say = inl refl
-ends_whole due ended.ReadFault before after e read say = absurd (read refl)
-ends_whole due ended.SayFault before after e read say = absurd (say refl)
-ends_whole due other before after e read say = inr (e.0, e.1, e.2, ap Some e.3)
-
-pub complete : (told now : Option Contents) (due : Contents → Reply → Type 0) (status : Status) (f g : Failures)
-    → TellsOn told now (λ before after. Ends (due before) status before after) → HasCause status f g → NoneRose f g
-    → IfSome told (λ before. (status ≡ ended.Memory)
-    ⊎ ((reply : Reply) × due before reply × (status ≡ reply.status) × (now ≡ Some (saying before reply.text))))
-complete None now due status f g goes cause none = tt
-complete (Some c) None due status f g goes cause none = absurd goes
-complete (Some c) (Some d) due status f g goes cause none =
-    ends_whole (due c) status c d goes (λ is. none.read (cause.read_fault is)) (λ is. none.say (cause.say_fault is))

@@ -15,7 +15,9 @@ use Rattle.integ.specs.Integ.{IsToldWhole}
 use Rattle.integ.specs.RawFile.{database_of}
 use Rattle.gds_cli.specs.declared.status.Status.{Status}
 use Rattle.gds_cli.specs.declared.status.Status.TheVariants as ended
-use Rattle.gds_cli.specs.Answer.{Reply, Answers, SaysFront, list_reply, list_status, is_break}
+use Rattle.gds_cli.specs.Answer.{Reply, list_reply, list_status}
+use Rattle.gds_cli.specs.Saying.{Answers, SaysFrontOf}
+use Rattle.gds_cli.specs.Status.{is_break}
 use Rattle.gds_cli.specs.FaultText.{fault_line, fault_text, count_line}
 use Rattle.gds_cli.proofs.SayingLemmas.{SaidFront, texts_split}
 use Rattle.gds_cli.proofs.DueLemmas.{goes_on}
@@ -40,7 +42,7 @@ pub answers_whole : (told now : Option Contents) (faults : List Fault) (status :
     → TellsOn told now (Answers (list_reply faults) status)
 answers_whole told now faults status is said =
     goes_on told now (Answers (list_reply faults) status) (λ c tells.
-    let P : Bool → Type 0 = λ t. MatchBool t (SaysFront (fault_text faults) c (saying c (fault_text faults)))
+    let P : Bool → Type 0 = λ t. MatchBool t (SaysFrontOf (fault_text faults) c (saying c (fault_text faults)))
     ((status ≡ list_status faults) × (saying c (fault_text faults) ≡ saying c (fault_text faults))) in
     (saying c (fault_text faults), said c tells, subst P (sym (ap is_break is ∙ no_break faults)) (is, refl)))
 
@@ -51,7 +53,7 @@ answers_broken told now reply status is said =
     goes_on told now (Answers reply status) (λ c tells.
     let front = said c tells in
     let after = saying c (take front.0 reply.text) in
-    let P : Bool → Type 0 = λ t. MatchBool t (SaysFront reply.text c after)
+    let P : Bool → Type 0 = λ t. MatchBool t (SaysFrontOf reply.text c after)
     ((status ≡ reply.status) × (after ≡ saying c reply.text)) in
     (after, front.1, subst P (sym is) (front.0, refl)))
 

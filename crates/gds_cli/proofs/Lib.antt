@@ -6,6 +6,9 @@ mod SayingLemmas
 mod DirectoryLemmas
 mod ExtractLemmas
 mod DueLemmas
+mod EndsLemmas
+mod CreateLemmas
+mod RunLemmas
 mod FaultsDueLemmas
 mod FaultLineLemmas
 pub mod LeafRecordLemmas

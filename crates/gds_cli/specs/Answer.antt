@@ -1,10 +1,21 @@
--- What each command says and how it ends.
-use Rattle.std.specs.Prelude.{◌≡◌, ◌⊎◌, ℕ, Bool, true, false, MatchBool, List, [], ◌∷◌, ◌++◌, take, Result, Ok, Err}
-use Rattle.std.specs.Prelude.{codes}
+-- What each command says, how it ends, and what it leaves of the two files, at its end and at each moment.
+use Rattle.std.specs.Prelude.{◌≡◌, ◌≢◌, ◌⊎◌, ℕ, MatchBool, List, [], ◌∷◌, ◌++◌, take, length, replicate, Result, Ok, Err}
+use Rattle.std.specs.Prelude.{Option, Some, codes}
 use Rattle.std.specs.Fmt.{decimal}
-use Rattle.host_model.specs.Files.{Contents, saying}
+use Rattle.std.specs.FinMap.{empty}
+use Rattle.host_model.specs.Files.{Contents}
+use Rattle.host_model.specs.Moments.{EachLeft, LeavesOnly}
+use Rattle.gds_header.specs.declared.header.Header.{Header}
+use Rattle.gds_images.specs.Chain.{chain_of}
+use Rattle.gds_images.specs.Recovered.{recovered}
+use Rattle.gds_new.specs.NewDatabase.{new_database}
+use Rattle.gds_create.specs.Newborn.{HasBytes, IsEmpty, IsRefused, closed_images}
 use Rattle.gds_law.specs.declared.fault.Fault.{Fault}
 use Rattle.gds_law.specs.Faults.{AreFaults}
+use Rattle.gds_sound.specs.Stands.{StandsFor}
+use Rattle.gds_opening.specs.Opening.{FindsFaults}
+use Rattle.gds_script.specs.Answer.{answer_lines}
+use Rattle.gds_run.specs.Run.{IsBrokenRun, IsRun, LeavesPrefixes}
 use Rattle.m_key.specs.Globals.{Globals}
 use Rattle.m_text.specs.Extract.{zwr}
 use Rattle.gds_cli.specs.FaultText.{fault_text}
@@ -14,6 +25,7 @@ use Rattle.gds_words.specs.declared.words.Command.TheVariants.{Version, Integ, E
 use Rattle.gds_words.specs.declared.words.BadWords.{BadWords}
 use Rattle.gds_cli.specs.declared.status.Status.{Status}
 use Rattle.gds_cli.specs.declared.status.Status.TheVariants as ended
+use Rattle.gds_cli.specs.Status.{is_break}
 
 -- what a call says, and the status that it ends with
 pub record Reply : Type 0 where
@@ -24,9 +36,19 @@ pub record Reply : Type 0 where
 abbrev pub line : List ℕ → List ℕ
 line text = text ++ 10 ∷ []
 
--- the command isn't built yet for these files
-abbrev pub not_built : Reply
-not_built = record { text = line (codes "NOTBUILT"); status = ended.NotBuilt }
+-- ---- what is due
+
+-- VERSION says the label of the file format.
+abbrev pub version : Reply
+version = record { text = line (codes "GDSPROF1"); status = ended.Done }
+
+-- The word at this place, counted from 0, is the first that fits no command.
+abbrev pub bad_words : ℕ → Reply
+bad_words place = record { text = line (codes "BADWORDS " ++ decimal place); status = ended.BadWords }
+
+-- A unit of the database file, 0 for its header, isn't as it was: of a host that tells nothing alone.
+abbrev pub changed : ℕ → Reply
+changed unit = record { text = line (codes "CHANGED " ++ decimal unit); status = ended.Changed }
 
 -- A file without faults is as it should be.
 abbrev pub list_status : List Fault → Status
@@ -40,82 +62,155 @@ list_reply faults = record { text = fault_text faults; status = list_status faul
 abbrev pub FaultsDue : List ℕ → Reply → Type 0
 FaultsDue image reply = (faults : List Fault) × AreFaults image faults × (reply ≡ list_reply faults)
 
+-- the command isn't built yet for these files
+abbrev pub not_built : Reply
+not_built = record { text = line (codes "NOTBUILT"); status = ended.NotBuilt }
+
 -- An extract says the text of the map that thin files stand for. For other files it isn't built.
 abbrev pub ExtractDue : List ℕ → Contents → Reply → Type 0
 ExtractDue stamp c reply =
     ((m : Globals) × IsThinWith c.db c.images m × (reply ≡ record { text = zwr m stamp; status = ended.Done }))
     ⊎ (((m : Globals) → IsThinWith c.db c.images m → ⊥) × (reply ≡ not_built))
 
--- The word at this place, counted from 0, is the first that fits no command.
-abbrev pub bad_words : ℕ → Reply
-bad_words place = record { text = line (codes "BADWORDS " ++ decimal place); status = ended.BadWords }
+-- Both files hold what they held.
+pub record SameFiles (before after : Contents) : Type 0 where
+  pub db : after.db ≡ before.db
+  pub images : after.images ≡ before.images
 
--- What is due for the words over what the host holds. CREATE and RUN aren't built yet: words that are one of them are
--- bad words, and the first doesn't fit.
-abbrev pub Due : Result Command BadWords → Contents → Reply → Type 0
-Due (Err bad) c reply = reply ≡ bad_words bad.place
-Due (Ok (Create block key value alloc ext limit)) c reply = reply ≡ bad_words 0
-Due (Ok Run) c reply = reply ≡ bad_words 0
-Due (Ok Version) c reply = reply ≡ record { text = line (codes "GDSPROF1"); status = ended.Done }
-Due (Ok Integ) c reply = FaultsDue c.db reply
-Due (Ok (Extract stamp)) c reply = ExtractDue stamp.items c reply
+-- They were empty, and are those of a new database with the numbers of a header.
+pub record BecomesNew (h : Header) (before after : Contents) : Type 0 where
+  pub empty : IsEmpty before
+  pub db : after.db ≡ new_database h
+  pub images : after.images ≡ closed_images
 
--- Which endings the words may have, whatever the device does. Only a database file that is read can meet
--- a failure or a change, and only a text that is put together wants memory.
-abbrev pub MayEnd : Result Command BadWords → Status → Type 0
-MayEnd command ended.SayFault = Unit {0}
-MayEnd (Err bad) ended.BadWords = Unit {0}
-MayEnd (Err bad) ended.Memory = Unit {0}
-MayEnd (Ok (Create block key value alloc ext limit)) ended.BadWords = Unit {0}
-MayEnd (Ok (Create block key value alloc ext limit)) ended.Memory = Unit {0}
-MayEnd (Ok Run) ended.BadWords = Unit {0}
-MayEnd (Ok Run) ended.Memory = Unit {0}
-MayEnd (Ok Version) ended.Done = Unit {0}
-MayEnd (Ok Integ) ended.Unsound = Unit {0}
-MayEnd (Ok Integ) ended.Done = Unit {0}
-MayEnd (Ok Integ) ended.Changed = Unit {0}
-MayEnd (Ok Integ) ended.ReadFault = Unit {0}
-MayEnd (Ok Integ) ended.Memory = Unit {0}
-MayEnd (Ok (Extract stamp)) ended.Done = Unit {0}
-MayEnd (Ok (Extract stamp)) ended.NotBuilt = Unit {0}
-MayEnd (Ok (Extract stamp)) ended.Changed = Unit {0}
-MayEnd (Ok (Extract stamp)) ended.ReadFault = Unit {0}
-MayEnd (Ok (Extract stamp)) ended.Memory = Unit {0}
-MayEnd command other = ⊥
+-- a header with the numbers of CREATE's words, which are all that a new database takes of it
+abbrev pub header_with : ℕ → ℕ → ℕ → ℕ → ℕ → ℕ → Header
+header_with block key value alloc ext limit = record {
+  block_size = block;
+  total = alloc;
+  free = 0;
+  extension = ext;
+  limit = limit;
+  key_max = key;
+  value_max = value;
+  tn = 0;
+  master = replicate 256 0;
+}
 
--- the commands that read no file, so that they ask the host for their saying alone
-abbrev pub ReadsNoFile : Result Command BadWords → Type 0
-ReadsNoFile (Err bad) = Unit {0}
-ReadsNoFile (Ok (Create block key value alloc ext limit)) = Unit {0}
-ReadsNoFile (Ok Run) = Unit {0}
-ReadsNoFile (Ok Version) = Unit {0}
-ReadsNoFile (Ok Integ) = ⊥
-ReadsNoFile (Ok (Extract stamp)) = ⊥
+abbrev pub created : ℕ → Reply
+created total = record { text = line (codes "CREATED " ++ decimal total); status = ended.Done }
 
--- a front of the text was said, and both files stayed
-abbrev pub SaysFront : List ℕ → Contents → Contents → Type 0
-SaysFront text before after = (n : ℕ) × (after ≡ saying before (take n text))
+abbrev pub not_empty : Reply
+not_empty = record { text = line (codes "NOTEMPTY"); status = ended.NotEmpty }
 
--- a failure of the device, or want of memory
-abbrev pub is_break : Status → Bool
-is_break ended.Memory = true
-is_break ended.ReadFault = true
-is_break ended.SayFault = true
-is_break other = false
+-- CREATE makes a new database of two empty files, and says how many blocks it has. Where one has bytes, both stay.
+abbrev pub CreateDue : Header → Contents → Reply → Contents → Type 0
+CreateDue h before reply after =
+    (BecomesNew h before after × (reply ≡ created h.total))
+    ⊎ (HasBytes before × SameFiles before after × (reply ≡ not_empty))
 
--- How a call ends over a host that tells: the reply is said, whole, and its status given, or at a break no
--- more is said than a front of the reply.
-abbrev pub Answers : Reply → Status → Contents → Contents → Type 0
-Answers reply status before after =
-    MatchBool (is_break status) (SaysFront reply.text before after)
-    ((status ≡ reply.status) × (after ≡ saying before reply.text))
+-- where the file of images is damaged, and how many faults the recovered database has
+abbrev pub bad_images : ℕ → Reply
+bad_images at = record { text = line (codes "BADIMAGES " ++ decimal at); status = ended.BadImages }
 
--- How a call ends over a host that tells, where one of these replies is due: it is said, whole, and its status given.
--- At
--- a break some bytes were said, which are a front of the reply that is due. Both files stay.
-abbrev pub Ends : (Reply → Type 0) → Status → Contents → Contents → Type 0
-Ends due status before after =
-    MatchBool (is_break status)
-    ((said : List ℕ) × (after ≡ saying before said)
-    × ((reply : Reply) → due reply → (n : ℕ) × (said ≡ take n reply.text)))
-    ((reply : Reply) × due reply × (status ≡ reply.status) × (after ≡ saying before reply.text))
+abbrev pub unsound : ℕ → Reply
+unsound faults = record { text = line (codes "UNSOUND " ++ decimal faults); status = ended.Unsound }
+
+-- Why the files can't be opened.
+abbrev pub RefusalDue : Contents → Reply → Type 0
+RefusalDue c reply =
+    ((at : ℕ) × (chain_of c.images (length c.db) ≡ Err at) × (reply ≡ bad_images at))
+    ⊎ ((faults : ℕ) × (faults ≢ 0) × FindsFaults faults c × (reply ≡ unsound faults))
+
+-- RUN answers each line of its input by a line, and leaves the database that the changes lead to. Where the files can't
+-- be opened it says why, and the next opening finds what it would have found.
+abbrev pub RunDue : List ℕ → Contents → Reply → Contents → Type 0
+RunDue input before reply after =
+    ((run : IsRun input before after) × (reply ≡ record { text = answer_lines run.answers; status = ended.Done }))
+    ⊎ (RefusalDue before reply × (recovered after.db after.images ≡ recovered before.db before.images))
+
+-- Which reply is due for the words, where the host holds this before and the input has this text, and what the files
+-- hold once it is said.
+abbrev pub Due : Result Command BadWords → List ℕ → Contents → Reply → Contents → Type 0
+Due (Err bad) input before reply after = SameFiles before after × (reply ≡ bad_words bad.place)
+Due (Ok Version) input before reply after = SameFiles before after × (reply ≡ version)
+Due (Ok Integ) input before reply after = SameFiles before after × FaultsDue before.db reply
+Due (Ok (Extract stamp)) input before reply after = SameFiles before after × ExtractDue stamp.items before reply
+Due (Ok (Create block key value alloc ext limit)) input before reply after =
+    CreateDue (header_with block key value alloc ext limit) before reply after
+Due (Ok Run) input before reply after = RunDue input before reply after
+
+-- ---- how a call ends
+
+-- A reply that is due was said, whole, and its status given.
+pub record Replies (due : Reply → Contents → Type 0) (status : Status) (before after : Contents) : Type 0 where
+  pub reply : Reply
+  pub is_due : due reply after
+  pub ends : status ≡ reply.status
+  pub says : after.said ≡ before.said ++ reply.text
+
+-- Some bytes were said, which are a front of each reply that is due, whatever the files would have held.
+pub record SaysFront (due : Reply → Contents → Type 0) (before after : Contents) : Type 0 where
+  pub text : List ℕ
+  pub says : after.said ≡ before.said ++ text
+  pub front : (reply : Reply) (later : Contents) → due reply later → (n : ℕ) × (text ≡ take n reply.text)
+
+-- Where CREATE breaks off, and no write failed, both files are as they were, or are the new database.
+abbrev pub AllOrNothing : Header → Status → Contents → Contents → Type 0
+AllOrNothing h status before after = status ≢ ended.WriteFault → SameFiles before after ⊎ BecomesNew h before after
+
+abbrev pub CreateBreaksOff : Header → Status → Contents → Contents → Type 0
+CreateBreaksOff h status before after =
+    SaysFront (CreateDue h before) before after × AllOrNothing h status before after
+
+-- Where RUN breaks off, it answered some first lines of the input, and some first bytes of the answers were said; or it
+-- said some bytes, or none, of why the files can't be opened. What the files hold is among what a crash leaves.
+abbrev pub RunBreaksOff : List ℕ → Contents → Contents → Type 0
+RunBreaksOff input before after =
+    IsBrokenRun input before after ⊎ SaysFront (λ reply later. RefusalDue before reply) before after
+
+-- The other commands leave both files as they are.
+abbrev pub BreaksOff : Result Command BadWords → List ℕ → Status → Contents → Contents → Type 0
+BreaksOff (Ok Run) input status before after = RunBreaksOff input before after
+BreaksOff (Ok (Create block key value alloc ext limit)) input status before after =
+    CreateBreaksOff (header_with block key value alloc ext limit) status before after
+BreaksOff command input status before after =
+    SaysFront (Due command input before) before after × SameFiles before after
+
+-- A call says a reply that is due, or breaks off so.
+abbrev pub EndsAs : (Reply → Contents → Type 0) → Type 0 → Status → Contents → Contents → Type 0
+EndsAs due broken status before after = MatchBool (is_break status) broken (Replies due status before after)
+
+-- How a call ends over a host that tells what it holds.
+abbrev pub Ends : Result Command BadWords → List ℕ → Status → Contents → Contents → Type 0
+Ends command input status before after =
+    EndsAs (Due command input before) (BreaksOff command input status before after) status before after
+
+-- The input has this text. The commands that read none are asked for nothing.
+abbrev pub IsGiven : Result Command BadWords → Option (List ℕ) → List ℕ → Type 0
+IsGiven (Ok Run) input text = input ≡ Some text
+IsGiven command input text = Unit {0}
+
+-- ---- what a crash leaves
+
+-- An opening finds a database that stands for the map without nodes.
+pub record FindsEmpty (c : Contents) : Type 0 where
+  pub image : List ℕ
+  pub recovers : recovered c.db c.images ≡ Some image
+  pub stands : StandsFor image empty
+
+-- An opening refuses the files, or finds no node in them; and some of the text was said.
+pub record IsRefusedOrEmpty (text : List ℕ) (before c : Contents) : Type 0 where
+  pub finds : IsRefused c ⊎ FindsEmpty c
+  pub said : (n : ℕ) × (c.said ≡ before.said ++ take n text)
+
+module _ {H : Type 0} (moment : H → ℕ) (left_since : H → ℕ → Contents → Type 0) where
+  -- What a crash at any moment of the call leaves. Of CREATE it is said where a crash before left two empty files. In a
+  -- RUN, from when both files are stable, it leaves the map after a prefix of the answered changes, with all those that
+  -- the last line `EPOCH n` tells.
+  abbrev pub Leaves : Result Command BadWords → List ℕ → H → H → Contents → Type 0
+  Leaves (Ok Run) input host now before = LeavesPrefixes moment left_since input before host now
+  Leaves (Ok (Create block key value alloc ext limit)) input host now before =
+      EachLeft moment left_since host IsEmpty
+      → LeavesOnly moment left_since host now (IsRefusedOrEmpty (created alloc).text before)
+  Leaves command input host now before = Unit {0}

@@ -6,4 +6,7 @@ pub mod Leaf
 pub mod Directory
 pub mod FaultText
 pub mod Answer
+pub mod Saying
+pub mod Create
+pub mod Run
 pub mod Extract

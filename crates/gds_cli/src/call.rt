@@ -1,17 +1,20 @@
-ghost use Rattle.std.specs.Prelude.{◌≡◌, ◌≢◌, ◌⊎◌, Some, IfSome};
+ghost use Rattle.std.specs.Prelude.{◌≡◌, ◌≢◌, ◌⊎◌, ◌↔◌, ◌≤◌, ℕ, List, IfOk, length};
 ghost use Rattle.std.specs.Option.{ForSome};
-ghost use Rattle.host_model.specs.Failures.{NoneRose, counted};
-ghost use Rattle.host_model.specs.Files.{saying};
-ghost use Rattle.host_model.specs.Frames.{WasUsed};
+ghost use Rattle.host_model.specs.Failures.{NeverFell, NoneRose, Rose, counted};
+ghost use Rattle.host_model.specs.Told.{TellsOn};
+ghost use Rattle.gds_lines.specs.LinesState.{IsAboveLimit, IsEnd};
+ghost use Rattle.gds_lines.specs.declared.TheConstants.{INPUT_LIMIT};
 ghost use Rattle.gds_sound.specs.Sound.{HasOneMap};
-ghost use Rattle.gds_words.specs.Words.{command_in};
-ghost use Rattle.gds_cli.specs.Status.{HasCause};
-ghost use Rattle.gds_cli.specs.Answer.{Reply, Due, Ends, ExtractDue, MayEnd, ReadsNoFile};
+ghost use Rattle.gds_words.specs.Words.{MakesHeader, command_in};
+ghost use Rattle.gds_cli.specs.Status.{HasCause, MayEnd, TouchesNoFile};
+ghost use Rattle.gds_cli.specs.Answer.{Due, Ends, IsGiven, Leaves, Replies};
 
+use crate::create::{create, header_with};
+use crate::extract::extract;
 use crate::fault_list::tell_faults;
-use crate::saying::say;
+use crate::run::run;
+use crate::saying::{say, say_number};
 use crate::status::Status;
-use crate::thin::{self, Trouble};
 use gds_words::{BadWords, Command, read_words};
 use host_model::{Host, Source};
 use std::alloc::Global;
@@ -21,112 +24,129 @@ use std::alloc::Global;
 pub struct Ended<H: Host, I: Source> {
     pub status: Status,
     pub host: H,
+    /// The input. Of a RUN bytes may have been taken from it that no line was read of.
     pub input: I,
 }
 
 /// Does what the words ask for on the host's files, says the answer, and hands host and input back.
 pub fn gds<H: Host, I: Source>(alloc: Global, words: &[String], host: H, input: I) -> Ended<H, I>
-    // Over a host that tells: the reply is said, or a front of it where the device failed or memory ran out.
-    // Both files stay.
-    ensures host { WasUsed H.told H.failures host result.host (λ before after.
-        Ends (Due (command_in words.now) before) result.status before after) }
-    // Where the device didn't fail either, the whole reply is said, or memory ran out.
-    ensures complete { NoneRose (H.failures host) (H.failures result.host) → IfSome (H.told host) (λ before.
-        (result.status ≡ Status.Memory)
-        ⊎ ((reply : Reply) × Due (command_in words.now) before reply
-        × (result.status ≡ reply.status) × (H.told result.host ≡ Some (saying before reply.text)))) }
+    // Over a host that tells: the reply that is due is said and the files hold what is due, or the call broke off.
+    ensures host { (text : List ℕ) → IsGiven (command_in words.now) (I.left input) text
+        → TellsOn (H.told host) (H.told result.host) (Ends (command_in words.now) text result.status) }
+    // Where neither the device nor the input failed, and that isn't too long, the whole reply is said, or memory ran
+    // out.
+    ensures complete { NoneRose (H.failures host) (H.failures result.host)
+        → (Rose (I.failures input) (I.failures result.input) → ⊥)
+        → (text : List ℕ) → IsGiven (command_in words.now) (I.left input) text → length text ≤ INPUT_LIMIT
+        → TellsOn (H.told host) (H.told result.host) (λ before after. (result.status ≡ Status.Memory)
+        ⊎ Replies (Due (command_in words.now) text before) result.status before after) }
+    // What a crash at any moment of it leaves.
+    ensures crash { (text : List ℕ) → IsGiven (command_in words.now) (I.left input) text → ForSome (H.told host)
+        (λ before. Leaves H.moment H.left_since (command_in words.now) text host result.host before) }
     // Where INTEG finds no fault the database file stands for exactly one map of globals.
     ensures one_map { command_in words.now ≡ Ok Command.Integ → result.status ≡ Status.Done
         → ForSome (H.told host) (λ c. HasOneMap c.db) }
-
-    // Over any host.
-    ensures status { MayEnd (command_in words.now) result.status }
-    ensures cause { HasCause result.status (H.failures host) (H.failures result.host) }
-    // A call that reads no file asks the host for its saying alone.
-    ensures one_call { ReadsNoFile (command_in words.now) → result.status ≢ Status.Memory
-        → H.moment result.host ≡ counted (H.moment host) }
     // An INTEG that can't read the file says nothing.
     ensures unread { command_in words.now ≡ Ok Command.Integ → result.status ≡ Status.ReadFault
         → H.told result.host ≡ H.told host }
-    ensures input { result.input ≡ input }
+
+    // Over any host and input.
+    ensures status { MayEnd (command_in words.now) result.status }
+    ensures cause { HasCause result.status (H.failures host) (H.failures result.host) }
+    ensures failures { NeverFell (H.failures host) (H.failures result.host) }
+    ensures input_cause { result.status ≡ Status.InputFault → Rose (I.failures input) (I.failures result.input) }
+    // More of the input was taken than its limit exactly where the status says so.
+    ensures too_long { TellsOn (I.left input) (I.left result.input)
+        (λ text rest. (result.status ≡ Status.InputTooLong) ↔ IsAboveLimit text rest) }
+    // RUN alone takes input.
+    ensures input { command_in words.now ≢ Ok Command.Run → result.input ≡ input }
+    ensures rest { TellsOn (I.left input) (I.left result.input) IsEnd }
+    // A call that touches no file asks the host for its saying alone.
+    ensures one_call { TouchesNoFile (command_in words.now) → result.status ≢ Status.Memory
+        → H.moment result.host ≡ counted (H.moment host) }
 {
-    let (status, host) = answer(alloc, words, host);
-    Ended {
-        status,
-        host,
-        input,
-    }
+    answer(alloc, read_words(words), host, input)
 }
 
-/// Does what the words ask for, and says the answer.
-fn answer<H: Host>(alloc: Global, words: &[String], mut host: H) -> (Status, H)
-    ensures host { WasUsed H.told H.failures host result.1 (λ before after.
-        Ends (Due (command_in words.now) before) result.0 before after) }
-    ensures unread { command_in words.now ≡ Ok Command.Integ → result.0 ≡ Status.ReadFault
-        → H.told result.1 ≡ H.told host }
-    ensures one_map { command_in words.now ≡ Ok Command.Integ → result.0 ≡ Status.Done
+/// Does what a command asks for, and says the answer.
+fn answer<H: Host, I: Source>(
+    alloc: Global,
+    command: Result<Command, BadWords>,
+    host: H,
+    input: I,
+) -> Ended<H, I>
+    requires { IfOk command MakesHeader }
+    ensures host { (text : List ℕ) → IsGiven command (I.left input) text
+        → TellsOn (H.told host) (H.told result.host) (Ends command text result.status) }
+    ensures crash { (text : List ℕ) → IsGiven command (I.left input) text → ForSome (H.told host)
+        (λ before. Leaves H.moment H.left_since command text host result.host before) }
+    ensures one_map { command ≡ Ok Command.Integ → result.status ≡ Status.Done
         → ForSome (H.told host) (λ c. HasOneMap c.db) }
-    ensures status { MayEnd (command_in words.now) result.0 }
-    ensures cause { HasCause result.0 (H.failures host) (H.failures result.1) }
-    ensures one_call { ReadsNoFile (command_in words.now) → result.0 ≢ Status.Memory
-        → H.moment result.1 ≡ counted (H.moment host) }
+    ensures unread { command ≡ Ok Command.Integ → result.status ≡ Status.ReadFault
+        → H.told result.host ≡ H.told host }
+    ensures status { MayEnd command result.status }
+    ensures cause { HasCause result.status (H.failures host) (H.failures result.host) }
+    ensures failures { NeverFell (H.failures host) (H.failures result.host) }
+    ensures input_cause { result.status ≡ Status.InputFault → Rose (I.failures input) (I.failures result.input) }
+    ensures too_long { TellsOn (I.left input) (I.left result.input)
+        (λ text rest. (result.status ≡ Status.InputTooLong) ↔ IsAboveLimit text rest) }
+    ensures input { command ≢ Ok Command.Run → result.input ≡ input }
+    ensures rest { TellsOn (I.left input) (I.left result.input) IsEnd }
+    ensures one_call { TouchesNoFile command → result.status ≢ Status.Memory
+        → H.moment result.host ≡ counted (H.moment host) }
 {
-    match read_words(words) {
+    let mut host = host;
+    match command {
+        Ok(Command::Run) => run(alloc, host, input),
         Ok(Command::Version) => {
             let status = say(&mut host, "GDSPROF1\n", Status::Done);
-            (status, host)
+            Ended {
+                status,
+                host,
+                input,
+            }
         }
-        Ok(Command::Integ) => tell_faults(alloc, host),
+        Ok(Command::Integ) => {
+            let (status, host) = tell_faults(alloc, host);
+            Ended {
+                status,
+                host,
+                input,
+            }
+        }
         Ok(Command::Extract { stamp }) => {
             let status = extract(alloc, &mut host, &stamp);
-            (status, host)
+            Ended {
+                status,
+                host,
+                input,
+            }
         }
-        // These two aren't built yet: their names don't fit.
-        Ok(Command::Create { .. }) => {
-            let status = say_bad_words(alloc, &mut host, 0);
-            (status, host)
-        }
-        Ok(Command::Run) => {
-            let status = say_bad_words(alloc, &mut host, 0);
-            (status, host)
+        Ok(
+            Command::Create {
+                block,
+                key,
+                value,
+                alloc: total,
+                ext,
+                limit,
+            },
+        ) => {
+            let header = header_with(block, key, value, total, ext, limit);
+            let status = create(alloc, &mut host, &header);
+            Ended {
+                status,
+                host,
+                input,
+            }
         }
         Err(BadWords { place }) => {
-            let status = say_bad_words(alloc, &mut host, place);
-            (status, host)
+            let status = say_number(alloc, &mut host, "BADWORDS", place as u64, Status::BadWords);
+            Ended {
+                status,
+                host,
+                input,
+            }
         }
-    }
-}
-
-/// Says the place of the first word that fits no command.
-fn say_bad_words<H: Host>(alloc: Global, host: &mut H, place: usize) -> Status
-    ensures host { WasUsed H.told H.failures host.old host.new (λ before after.
-        Ends (Due (Err (record { place = place })) before) result before after) }
-    ensures status { MayEnd (Err (record { place = place })) result }
-    ensures cause { HasCause result (H.failures host.old) (H.failures host.new) }
-    ensures one_call { result ≢ Status.Memory → H.moment host.new ≡ counted (H.moment host.old) }
-{
-    match format!(in alloc; "BADWORDS {place}\n") {
-        Ok(text) => say(host, text.as_str(), Status::BadWords),
-        Err(_) => Status::Memory,
-    }
-}
-
-/// Says the extract of thin files, and of others that they aren't built yet.
-fn extract<H: Host>(alloc: Global, host: &mut H, stamp: &[u8]) -> Status
-    ensures host { WasUsed H.told H.failures host.old host.new (λ before after.
-        Ends (ExtractDue stamp.now before) result before after) }
-    ensures status { MayEnd (Ok (Command.Extract (record { items = stamp.now }))) result }
-    ensures cause { HasCause result (H.failures host.old) (H.failures host.new) }
-{
-    match thin::extract(alloc, host, stamp) {
-        Ok(true) => Status::Done,
-        Ok(false) => say(host, "NOTBUILT\n", Status::NotBuilt),
-        Err(Trouble::Memory) => Status::Memory,
-        Err(Trouble::Read) => Status::ReadFault,
-        Err(Trouble::Say) => Status::SayFault,
-        Err(Trouble::Changed { unit }) => match format!(in alloc; "CHANGED {unit}\n") {
-            Ok(text) => say(host, text.as_str(), Status::Changed),
-            Err(_) => Status::Memory,
-        },
     }
 }

@@ -5,13 +5,14 @@ ghost use Rattle.host_model.specs.Failures.{NeverFell, Rose};
 ghost use Rattle.host_model.specs.Frames.{WasUsed};
 ghost use Rattle.gds_sound.specs.Sound.{HasOneMap};
 ghost use Rattle.gds_words.specs.declared.words.Command.TheVariants.{Integ};
-ghost use Rattle.gds_cli.specs.Status.{HasCause};
-ghost use Rattle.gds_cli.specs.Answer.{Answers, Ends, FaultsDue, MayEnd, list_reply, list_status};
+ghost use Rattle.gds_cli.specs.Status.{HasCause, MayEnd};
+ghost use Rattle.gds_cli.specs.Answer.{FaultsDue, list_reply, list_status};
+ghost use Rattle.gds_cli.specs.Saying.{Answers, OnlySays};
 ghost use Rattle.gds_cli.specs.Extract.{SaidOf, SaysOn};
 ghost use Rattle.gds_cli.specs.FaultText.{fault_text};
 
 use crate::fault_text::{write_count, write_fault};
-use crate::saying::say;
+use crate::saying::say_number;
 use crate::status::Status;
 use gds_law::{Fault, SinkTrouble};
 use host_model::Host;
@@ -25,7 +26,7 @@ const PIECE: usize = 65_536;
 /// Says all faults of the database file, and how many they are. Where the file couldn't be read it says no fault.
 pub(crate) fn tell_faults<H: Host>(alloc: Global, host: H) -> (Status, H)
     ensures host { WasUsed H.told H.failures host result.1 (λ before after.
-        Ends (FaultsDue before.db) result.0 before after) }
+        OnlySays (FaultsDue before.db) result.0 before after) }
     ensures unread { result.0 ≡ Status.ReadFault → H.told result.1 ≡ H.told host }
     ensures one_map { result.0 ≡ Status.Done → ForSome (H.told host) (λ c. HasOneMap c.db) }
     ensures status { MayEnd (Ok Integ) result.0 }
@@ -45,13 +46,16 @@ pub(crate) fn tell_faults<H: Host>(alloc: Global, host: H) -> (Status, H)
         Err(IntegError::Memory) => (Status::Memory, host),
         Err(IntegError::ReadFault) => (Status::ReadFault, host),
         Err(IntegError::SayFault) => (Status::SayFault, host),
-        Err(IntegError::Changed { unit }) => match format!(in alloc; "CHANGED {unit}\n") {
-            Ok(text) => {
-                let status = say(&mut host, text.as_str(), Status::Changed);
-                (status, host)
-            }
-            Err(_) => (Status::Memory, host),
-        },
+        Err(IntegError::Changed { unit }) => {
+            let status = say_number(
+                alloc,
+                &mut host,
+                "CHANGED",
+                u64::from(unit),
+                Status::Changed,
+            );
+            (status, host)
+        }
     }
 }
 

@@ -2,9 +2,12 @@
 #![tactic(auto)]
 
 mod call;
+mod create;
+mod extract;
 mod fault_list;
 mod fault_text;
 mod laws;
+mod run;
 mod saying;
 mod status;
 mod thin;

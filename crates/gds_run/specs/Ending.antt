@@ -6,7 +6,7 @@ use Rattle.host_model.specs.Files.{Contents}
 use Rattle.host_model.specs.Told.{TellsOn}
 use Rattle.gds_images.specs.Chain.{chain_of}
 use Rattle.gds_lines.specs.declared.TheConstants.{INPUT_LIMIT}
-use Rattle.gds_lines.specs.LinesState.{Counts, IsAboveLimit, LinesState}
+use Rattle.gds_lines.specs.LinesState.{Counts, IsAboveLimit, IsEnd, LinesState}
 use Rattle.gds_opening.specs.Opening.{FindsFaults}
 use Rattle.gds_units.specs.State.{UnitsState}
 use Rattle.gds_run.specs.declared.error.RunError.{RunError}
@@ -38,6 +38,7 @@ pub record EndsAnswering {H T : Type 0} (told : H → Option Contents) (counts :
     (result : Result T RunError) : Type 0 where
   pub failures : NeverFell (counts old.host) (counts new.host)
   pub untold : told old.host ≡ None → told new.host ≡ None
+  pub tells : told new.host ≡ None → told old.host ≡ None
   pub going : OnOk result (new.stopped ≡ false)
   pub cause : IfErr result (HasDeviceCause (told old.host ≡ None) (counts old.host) (counts new.host))
 
@@ -54,7 +55,25 @@ pub record EndsScript {H T : Type 0} (told : H → Option Contents) (counts : H 
     (before now : LinesState) (result : Result T RunError) : Type 0 where
   pub failures : NeverFell (counts old.host) (counts new.host)
   pub untold : told old.host ≡ None → told new.host ≡ None
+  pub tells : told new.host ≡ None → told old.host ≡ None
   pub cause : IfErr result (HasLinesCause (told old.host ≡ None) (counts old.host) (counts new.host) before now)
   pub counts : TellsOn before.untaken now.untaken (Counts before.taken now.taken)
   pub too_long : INPUT_LIMIT < now.taken → result ≡ Err InputTooLong
   pub fails : before.failures ≤ now.failures
+
+-- What answering the lines of a source leaves, of the host and of the source: the cause of its error, and that input
+-- above the limit is refused.
+pub record EndsRun {H T : Type 0} (told : H → Option Contents) (counts : H → Failures) (old new : H)
+    (left rest : Option (List ℕ)) (failed fails : ℕ) (result : Result T RunError) : Type 0 where
+  pub failures : NeverFell (counts old) (counts new)
+  pub untold : told old ≡ None → told new ≡ None
+  pub cause : IfErr result (HasCause (told old) (counts old) (counts new) left rest failed fails)
+  pub too_long : TellsOn left rest (λ text untaken. IsAboveLimit text untaken → result ≡ Err InputTooLong)
+  pub input : TellsOn left rest IsEnd
+  pub fails_more : failed ≤ fails
+
+-- A database that can't be opened for what is wrong with its files.
+abbrev pub IsRefusal : RunError → Type 0
+IsRefusal (BadImages at) = Unit {0}
+IsRefusal (Unsound faults) = Unit {0}
+IsRefusal other = ⊥

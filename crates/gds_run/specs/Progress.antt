@@ -102,20 +102,20 @@ module _ {H : Type 0} (tells : H → Option Contents) (moment : H → ℕ) (left
   Says rest base waits changes result =
       MatchResult result (λ _. Progress rest base waits changes) (λ _. IsCutShort base.host)
 
-  -- All lines were answered and all answers said, and the file is the last image, of which the next opening finds the
-  -- map.
-  pub record IsWhole (base : UnitsState H) : Type 0 where
+  -- All lines were answered and all answers said. The database file is the last image, of which the next opening finds
+  -- the map.
+  pub record IsWhole (host : H) : Type 0 where
     pub answers : List Answer
     pub state : State
     pub runs : Runs (start_of o.image o.map) o.script answers state
     pub contents : Contents
-    pub host_tells : tells base.host ≡ Some contents
+    pub host_tells : tells host ≡ Some contents
     pub said_is : contents.said ≡ o.said ++ answer_lines answers
-    pub file_is : base.file ≡ Some state.image
+    pub file_is : contents.db ≡ state.image
     pub stands : StandsFor state.image state.map
-    pub only : LeavesOnly moment left_since o.host base.host (IsAfterPrefix o.script o.map o.said)
-    pub each : EachLeft moment left_since base.host (Finds state.map contents.said)
+    pub only : LeavesOnly moment left_since o.host host (IsAfterPrefix o.script o.map o.said)
+    pub each : EachLeft moment left_since host (Finds state.map contents.said)
 
   -- How a run ends: it is whole, or it was cut short.
-  abbrev pub Ends : {T : Type 0} → UnitsState H → Result T RunError → Type 0
-  Ends base result = MatchResult result (λ _. IsWhole base) (λ _. IsCutShort base.host)
+  abbrev pub Ends : {T : Type 0} → H → Result T RunError → Type 0
+  Ends host result = MatchResult result (λ _. IsWhole host) (λ _. IsCutShort host)

@@ -6,6 +6,7 @@ use Rattle.host_model.specs.Files.{Contents}
 use Rattle.host_model.specs.Moments.{EachSince}
 use Rattle.host_model.specs.Told.{TellsOn}
 use Rattle.m_key.specs.Globals.{Globals}
+use Rattle.gds_base.specs.Finds.{Finds}
 use Rattle.gds_images.specs.Recovered.{recovered}
 use Rattle.gds_sound.specs.Stands.{StandsFor}
 use Rattle.gds_script.specs.declared.answer.Answer.{Answer}
@@ -18,8 +19,8 @@ pub record Opens (c : Contents) (image : List ℕ) (m : Globals) : Type 0 where
   pub recovers : recovered c.db c.images ≡ Some image
   pub stands : StandsFor image m
 
--- All lines of the input were answered, and what was said are the answers. The next opening finds the last image, and
--- the file is it.
+-- All lines of the input were answered, and what was said are the answers. The database file is the last image, and the
+-- next opening finds the map for which that stands.
 pub record IsRun (input : List ℕ) (before now : Contents) : Type 0 where
   pub image : List ℕ
   pub map : Globals
@@ -28,7 +29,9 @@ pub record IsRun (input : List ℕ) (before now : Contents) : Type 0 where
   pub state : State
   pub runs : Runs (start_of image map) (script_of input) answers state
   pub said : now.said ≡ before.said ++ answer_lines answers
-  pub holds : Opens now state.image state.map
+  pub file : now.db ≡ state.image
+  pub stands : StandsFor state.image state.map
+  pub finds : Finds state.map now.said now
 
 -- Some first lines were answered, and some first bytes of the answers were said.
 pub record IsBrokenRun (input : List ℕ) (before now : Contents) : Type 0 where
@@ -53,7 +56,7 @@ module _ {H : Type 0} (moment : H → ℕ) (left_since : H → ℕ → Contents 
   -- new. Where there was no third call nothing is said of what comes after the second.
   pub record LeavesSinceBarrier (old new : H) (P : Contents → Type 0) : Type 0 where
     pub later : moment old ≤ moment new
-    pub since : counted (counted (moment old)) < moment new
+    pub since : moment old < moment new → counted (counted (moment old)) < moment new
         → (t : ℕ) → counted (counted (moment old)) ≤ t → EachSince moment left_since new t P
     pub before : (t : ℕ) (c : Contents) → t ≤ moment old → left_since new t c → left_since old t c ⊎ P c
 

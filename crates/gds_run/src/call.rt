@@ -1,9 +1,10 @@
-ghost use Rattle.std.specs.Prelude.{◌≡◌, ◌≤◌, Err, IfErr, None, OnErr, OnOk};
+ghost use Rattle.std.specs.Prelude.{◌≡◌, [], ℕ, IfErr, List, false, OnErr, OnOk, Some};
 ghost use Rattle.std.specs.Option.{ForSome};
-ghost use Rattle.host_model.specs.Failures.{NeverFell};
 ghost use Rattle.host_model.specs.Told.{TellsOn};
-ghost use Rattle.gds_lines.specs.LinesState.{IsAboveLimit, IsEnd};
-ghost use Rattle.gds_run.specs.Ending.{HasCause};
+ghost use Rattle.gds_script.specs.Script.{script_of};
+ghost use Rattle.gds_recovery.specs.Found.{FindsSame};
+ghost use Rattle.gds_run.specs.Ending.{EndsRun, IsRefusal};
+ghost use Rattle.gds_run.specs.Progress.{Ends, Origin, Progress};
 ghost use Rattle.gds_run.specs.Run.{Breaks, IsRun, LeavesPrefixes};
 
 use crate::error::RunError;
@@ -32,18 +33,14 @@ pub fn run<H: Host, I: Source>(alloc: Global, host: H, input: I) -> Ran<H, I>
         TellsOn (H.told host) (H.told result.host) (IsRun text))) }
     ensures broken { OnErr result.result (ForSome (I.left input) (λ text.
         TellsOn (H.told host) (H.told result.host) (Breaks text))) }
+    ensures refused { IfErr result.result (λ error. IsRefusal error
+        → TellsOn (H.told host) (H.told result.host) FindsSame) }
     ensures crash { ForSome (I.left input) (λ text. ForSome (H.told host) (λ c.
         LeavesPrefixes H.moment H.left_since text c host result.host)) }
-    ensures too_long { TellsOn (I.left input) (I.left result.input) (λ text rest.
-        IsAboveLimit text rest → result.result ≡ Err RunError.InputTooLong) }
 
     // Over any host and source.
-    ensures cause { IfErr result.result (HasCause (H.told host) (H.failures host) (H.failures result.host)
-        (I.left input) (I.left result.input) (I.failures input) (I.failures result.input)) }
-    ensures failures { NeverFell (H.failures host) (H.failures result.host) }
-    ensures untold { H.told host ≡ None → H.told result.host ≡ None }
-    ensures input { TellsOn (I.left input) (I.left result.input) IsEnd }
-    ensures fails { I.failures input ≤ I.failures result.input }
+    ensures ends { EndsRun H.told H.failures host result.host (I.left input) (I.left result.input)
+        (I.failures input) (I.failures result.input) result.result }
 {
     match open(alloc, host) {
         Ok(base) => run_open(alloc, base, input),
@@ -56,7 +53,14 @@ pub fn run<H: Host, I: Source>(alloc: Global, host: H, input: I) -> Ran<H, I>
 }
 
 /// The same on an open database.
-fn run_open<H: Host, I: Source>(alloc: Global, base: Base<H>, input: I) -> Ran<H, I> {
+fn run_open<H: Host, I: Source>(alloc: Global, base: Base<H>, input: I) -> Ran<H, I>
+    requires going { base.stopped ≡ false }
+    ensures run { (o : Origin H) (text : List ℕ) → I.left input ≡ Some text → o.script ≡ script_of text
+        → Progress H.told H.moment H.left_since o o.script base [] 0
+        → Ends H.told H.moment H.left_since o result.host result.result }
+    ensures ends { EndsRun H.told H.failures base.host result.host (I.left input) (I.left result.input)
+        (I.failures input) (I.failures result.input) result.result }
+{
     let mut session = Session::new(alloc, base);
     let mut lines = Lines::new(alloc, input);
     let result = answer_script(alloc, &mut session, &mut lines);

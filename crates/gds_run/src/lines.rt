@@ -27,10 +27,11 @@ pub(crate) fn answer_script<H: Host, I: Source>(
     requires reading { IsFalse lines.old.refused }
     requires few { session.old.changes ≤ lines.old.passed }
     requires short { lines.old.passed ≤ INPUT_LIMIT }
+    requires taken { lines.old.taken ≤ INPUT_LIMIT }
     ensures run { (o : Origin H) (text : List ℕ) → lines.old.left ≡ Some text → o.script ≡ script_of text
         → Progress H.told H.moment H.left_since o o.script session.old.base session.old.waiting.items
         session.old.changes
-        → Ends H.told H.moment H.left_since o session.new.base result }
+        → Ends H.told H.moment H.left_since o session.new.base.host result }
     ensures ends { EndsScript H.told H.failures session.old.base session.new.base lines.old lines.new result }
 {
     let answered = answer_lines(alloc, session, lines);
@@ -55,6 +56,7 @@ fn answer_lines<H: Host, I: Source>(
     requires reading { IsFalse lines.old.refused }
     requires few { session.old.changes ≤ lines.old.passed }
     requires short { lines.old.passed ≤ INPUT_LIMIT }
+    requires taken { lines.old.taken ≤ INPUT_LIMIT }
     ensures run { (o : Origin H) (text : List ℕ) → lines.old.left ≡ Some text
         → Progress H.told H.moment H.left_since o (script_of text) session.old.base session.old.waiting.items
         session.old.changes
@@ -79,11 +81,13 @@ fn next_line<H: Host, I: Source>(
     requires going { session.old.base.stopped ≡ false }
     requires reading { IsFalse lines.old.refused }
     requires short { lines.old.passed ≤ INPUT_LIMIT }
+    requires taken { lines.old.taken ≤ INPUT_LIMIT }
     ensures line { IfOk result (λ line. ForSome lines.old.left (λ text. MeansNext (next_line text) line)) }
     ensures left { OnOk result (TellsOn lines.old.left lines.new.left (λ text rest. rest ≡ after_first_line text)) }
     ensures passed { IfOk result (λ line. OnSome line (lines.old.passed < lines.new.passed)) }
     ensures reading { OnOk result (IsFalse lines.new.refused) }
     ensures short { OnOk result (lines.new.passed ≤ INPUT_LIMIT) }
+    ensures taken { OnOk result (lines.new.taken ≤ INPUT_LIMIT) }
     ensures changes { session.new.changes ≡ session.old.changes }
     ensures going { OnOk result (session.new.base.stopped ≡ false) }
     ensures run { (o : Origin H) (rest : List (List ℕ))
@@ -105,7 +109,7 @@ fn finish<H: Host>(alloc: Global, session: &mut Session<H>) -> Result<(), RunErr
     ensures run { (o : Origin H)
         → Progress H.told H.moment H.left_since o (codes "EPOCH" ∷ []) session.old.base session.old.waiting.items
         session.old.changes
-        → Ends H.told H.moment H.left_since o session.new.base result }
+        → Ends H.told H.moment H.left_since o session.new.base.host result }
     ensures ends { EndsAnswering H.told H.failures session.old.base session.new.base result }
 {
     session.answer(alloc, &Line::Asks(ScriptLine::Epoch))?;

@@ -3,7 +3,7 @@ use Rattle.host_model.proofs.FailureLemmas.{NeverFell-trans}
 use Rattle.gds_cli.specs.Answer.{ExtractDue, not_built}
 use Rattle.gds_cli.specs.declared.status.Status.TheVariants as ended
 use Rattle.gds_cli.proofs.DueLemmas.{extract_done, extract_other, goes_broken, goes_ends}
-use Rattle.gds_cli.proofs.call.extract.Goals as goal
+use Rattle.gds_cli.proofs.extract.extract.Goals as goal
 
 pub returns-in-Ok-true-clause-host : goal.returns-in-Ok-true-clause-host
 returns-in-Ok-true-clause-host g c = record {

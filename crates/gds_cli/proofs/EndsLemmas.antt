@@ -1,0 +1,185 @@
+-- How a call ends: by a command that changes no file, and where nothing failed.
+use Rattle.std.proofs.Common.{Bool, ◌≡◌, ◌⊎◌, ℕ, List, take, Option, Result, Ok, Err, IfOk, inl, inr, refl, ap, subst, sym}
+use Rattle.host_model.specs.Files.{Contents, saying}
+use Rattle.host_model.specs.Failures.{Failures, NoneRose}
+use Rattle.host_model.specs.Told.{TellsOn}
+use Rattle.host_model.proofs.FrameLemmas.{TellsOn-same, TellsOn-some, TellsOn-weaker}
+use Rattle.gds_words.specs.declared.words.Command.{Command}
+use Rattle.gds_words.specs.declared.words.Command.TheVariants.{Version, Integ, Extract, Create, Run}
+use Rattle.gds_words.specs.declared.words.BadWords.{BadWords}
+use Rattle.gds_cli.specs.declared.status.Status.{Status}
+use Rattle.gds_cli.specs.declared.status.Status.TheVariants as ended
+use Rattle.gds_cli.specs.Status.{HasCause, MayEnd, is_break}
+use Rattle.gds_cli.specs.Answer.{BreaksOff, Due, Ends, EndsAs, ExtractDue, IsGiven, Replies, Reply, SameFiles, SaysFront}
+use Rattle.gds_cli.specs.Answer.{IsRefusedOrEmpty, Leaves, created, header_with}
+use Rattle.std.specs.Option.{ForSome}
+use Rattle.host_model.specs.Moments.{EachLeft, LeavesOnly}
+use Rattle.gds_create.specs.Newborn.{IsEmpty}
+use Rattle.gds_header.specs.declared.header.Header.{Header}
+use Rattle.gds_cli.specs.Create.{CreateEnds}
+use Rattle.gds_words.specs.Words.{MakesHeader}
+use Rattle.gds_header.specs.Kinds.{IsWithinLimits}
+use Rattle.arrayvec.specs.ArrayVec.{ArrayVec}
+use Rattle.gds_cli.specs.Saying.{OnlySays}
+use Rattle.gds_lines.specs.LinesState.{IsAboveLimit, IsEnd}
+use Rattle.gds_lines.specs.declared.TheConstants.{INPUT_LIMIT}
+use Rattle.std.specs.Prelude.{◌↔◌, MatchBool}
+use Rattle.std.proofs.Common.{◌≤◌, [], Some, arith, length, true}
+use Rattle.gds_cli.proofs.DueLemmas.{match_both}
+
+-- saying changes no file
+same_said : (before after : Contents) (text : List ℕ) → after ≡ saying before text → SameFiles before after
+same_said before after text is =
+    record { db = ap (λ (c : Contents). c.db) is; images = ap (λ (c : Contents). c.images) is }
+
+abbrev pub Quietly : (Reply → Type 0) → Contents → Reply → Contents → Type 0
+Quietly due before reply after = SameFiles before after × due reply
+
+-- it ends by saying a reply, or breaks off and leaves the files as they are
+abbrev pub QuietEnds : (Reply → Type 0) → Status → Contents → Contents → Type 0
+QuietEnds due status before after =
+    EndsAs (Quietly due before) (SaysFront (Quietly due before) before after × SameFiles before after) status before after
+
+quiet_ends : (due : Reply → Type 0) (status : Status) (before after : Contents) → OnlySays due status before after
+    → QuietEnds due status before after
+quiet_ends due status before after says =
+    match_both (is_break status) _ _ _ _
+    (λ
+    (front : (said : List ℕ) × (after ≡ saying before said)
+    × ((reply : Reply) → due reply → (n : ℕ) × (said ≡ take n reply.text))). (
+      record {
+        text = front.0;
+        says = ap (λ (c : Contents). c.said) front.1;
+        front = λ reply later d. front.2 reply d.1;
+      },
+      same_said before after front.0 front.1,
+    ))
+    (λ (whole : (reply : Reply) × due reply × (status ≡ reply.status) × (after ≡ saying before reply.text)).
+    record {
+      reply = whole.0;
+      is_due = (same_said before after whole.0.text whole.3, whole.1);
+      ends = whole.2;
+      says = ap (λ (c : Contents). c.said) whole.3;
+    })
+    says
+
+-- The words are a command that changes no file, and said one of the replies that are due.
+pub quietly : (told now : Option Contents) (command known : Result Command BadWords) (due : Contents → Reply → Type 0)
+    (status : Status) → command ≡ known
+    → ((input : List ℕ) (before after : Contents) → QuietEnds (due before) status before after
+    → Ends known input status before after)
+    → TellsOn told now (λ before after. OnlySays (due before) status before after)
+    → (input : List ℕ) → TellsOn told now (Ends command input status)
+quietly told now command known due status is ends says input =
+    let P : Result Command BadWords → Type 0 = λ k. TellsOn told now (Ends k input status) in
+    subst P (sym is)
+    (TellsOn-weaker told now (λ before after. OnlySays (due before) status before after) (Ends known input status)
+    (λ before after s. ends input before after (quiet_ends (due before) status before after s)) says)
+
+-- an extract, whose stamp was lent as these bytes
+pub extract_ends : (told now : Option Contents) (command : Result Command BadWords) (stamp : ArrayVec ℕ) (text : List ℕ)
+    (status : Status) → command ≡ Ok (Extract stamp) → text ≡ stamp.items
+    → TellsOn told now (λ before after. OnlySays (ExtractDue text before) status before after)
+    → (input : List ℕ) → TellsOn told now (Ends command input status)
+extract_ends told now command stamp text status is same says input =
+    let P : List ℕ → Type 0 = λ t. TellsOn told now (λ before after. OnlySays (ExtractDue t before) status before after)
+    in
+    quietly told now command (Ok (Extract stamp)) (ExtractDue stamp.items) status is (λ i before after e. e)
+    (subst P same says) input
+
+-- CREATE, whose header has the numbers of the words
+module _ (command : Result Command BadWords) (block key value alloc ext limit : ℕ)
+    (is : command ≡ Ok (Create block key value alloc ext limit)) (h : Header)
+    (same : h ≡ header_with block key value alloc ext limit) where
+  pub header_limits : IfOk command MakesHeader → IsWithinLimits h
+  header_limits makes =
+      let P : Result Command BadWords → Type 0 = λ k. IfOk k MakesHeader in
+      subst IsWithinLimits (sym same)
+      (subst P is makes (header_with block key value alloc ext limit) refl refl refl refl refl refl)
+
+  pub create_ends : (told now : Option Contents) (status : Status) → TellsOn told now (CreateEnds h status)
+      → (input : List ℕ) → TellsOn told now (Ends command input status)
+  create_ends told now status ends input =
+      let P : Result Command BadWords → Type 0 = λ k. TellsOn told now (Ends k input status) in
+      let Q : Header → Type 0 = λ x. TellsOn told now (CreateEnds x status) in
+      subst P (sym is) (subst Q same ends)
+
+  pub create_leaves : {H : Type 0} {moment : H → ℕ} {left_since : H → ℕ → Contents → Type 0} (host now : H)
+      (told : Option Contents) (input : List ℕ)
+      → ForSome told (λ before. EachLeft moment left_since host IsEmpty
+      → LeavesOnly moment left_since host now (IsRefusedOrEmpty (created h.total).text before))
+      → ForSome told (Leaves moment left_since command input host now)
+  create_leaves {H} {moment} {left_since} host now told input leaves before tells =
+      let P : Result Command BadWords → Type 0 = λ k. Leaves moment left_since k input host now before in
+      let Q : Header → Type 0 = λ x. EachLeft moment left_since host IsEmpty
+      → LeavesOnly moment left_since host now (IsRefusedOrEmpty (created x.total).text before) in
+      subst P (sym is) (subst Q same (leaves before tells))
+
+-- a call that broke off
+pub breaks_as : (due : Reply → Contents → Type 0) (broken : Type 0) (status : Status) (before after : Contents)
+    → is_break status ≡ true → broken → EndsAs due broken status before after
+breaks_as due broken status before after is so =
+    let P : Bool → Type 0 = λ b. MatchBool b broken (Replies due status before after) in subst P (sym is) so
+
+-- ---- where nothing failed
+
+ends_whole : (due : Reply → Contents → Type 0) (broken : Type 0) (status : Status)
+    (before after : Contents) → EndsAs due broken status before after
+    → (status ≡ ended.ReadFault → ⊥) → (status ≡ ended.WriteFault → ⊥) → (status ≡ ended.SayFault → ⊥)
+    → (status ≡ ended.InputFault → ⊥) → (status ≡ ended.InputTooLong → ⊥)
+    → (status ≡ ended.Memory) ⊎ Replies due status before after
+ends_whole due broken ended.Memory before after e read write say input long = inl refl
+ends_whole due broken ended.ReadFault before after e read write say input long = absurd (read refl)
+ends_whole due broken ended.WriteFault before after e read write say input long = absurd (write refl)
+ends_whole due broken ended.SayFault before after e read write say input long = absurd (say refl)
+ends_whole due broken ended.InputFault before after e read write say input long = absurd (input refl)
+ends_whole due broken ended.InputTooLong before after e read write say input long = absurd (long refl)
+ends_whole due broken other before after e read write say input long = inr e
+
+-- the status says exactly whether too much of the input was taken
+abbrev pub TellsLength : Status → List ℕ → List ℕ → Type 0
+TellsLength status text rest = (status ≡ ended.InputTooLong) ↔ IsAboveLimit text rest
+
+above_none : (left rest : Option (List ℕ)) (text : List ℕ) (status : Status) → left ≡ Some text
+    → length text ≤ INPUT_LIMIT → TellsOn left rest (TellsLength status) → status ≡ ended.InputTooLong → ⊥
+above_none left rest text status given short long is =
+    let tells = TellsOn-some left rest (TellsLength status) text given long in
+    let above = tells.2.0 is in
+    omega (arith, above, short)
+
+not_long : (command : Result Command BadWords) (left rest : Option (List ℕ)) (text : List ℕ) (status : Status)
+    → MayEnd command status → IsGiven command left text → length text ≤ INPUT_LIMIT
+    → TellsOn left rest (TellsLength status) → status ≡ ended.InputTooLong → ⊥
+not_long (Ok Run) left rest text status may given short long is = above_none left rest text status given short long is
+not_long (Err bad) left rest text status may given short long is = subst (MayEnd (Err bad)) is may
+not_long (Ok Version) left rest text status may given short long is = subst (MayEnd (Ok Version)) is may
+not_long (Ok Integ) left rest text status may given short long is = subst (MayEnd (Ok Integ)) is may
+not_long (Ok (Extract stamp)) left rest text status may given short long is =
+    subst (MayEnd (Ok (Extract stamp))) is may
+not_long (Ok (Create block key value alloc ext limit)) left rest text status may given short long is =
+    subst (MayEnd (Ok (Create block key value alloc ext limit))) is may
+
+pub complete : (told now : Option Contents) (command : Result Command BadWords) (input : List ℕ) (status : Status)
+    (f g : Failures) (left rest : Option (List ℕ)) → TellsOn told now (Ends command input status)
+    → MayEnd command status → HasCause status f g → NoneRose f g → (status ≡ ended.InputFault → ⊥)
+    → IsGiven command left input → length input ≤ INPUT_LIMIT → TellsOn left rest (TellsLength status)
+    → TellsOn told now (λ before after.
+    (status ≡ ended.Memory) ⊎ Replies (Due command input before) status before after)
+complete told now command input status f g left rest ends may cause none quiet given short long =
+    TellsOn-weaker told now (Ends command input status)
+    (λ before after. (status ≡ ended.Memory) ⊎ Replies (Due command input before) status before after)
+    (λ before after e.
+    ends_whole (Due command input before) (BreaksOff command input status before after) status before after e
+    (λ is. none.read (cause.read_fault is)) (λ is. none.write (cause.write_fault is))
+    (λ is. none.say (cause.say_fault is)) quiet (not_long command left rest input status may given short long))
+    ends
+
+-- ---- where no input was taken
+
+pub all_left : (left : Option (List ℕ)) → TellsOn left left IsEnd
+all_left left = TellsOn-same left left IsEnd (λ text. ([], refl)) refl
+
+pub none_taken : (left : Option (List ℕ)) (status : Status) → (status ≡ ended.InputTooLong → ⊥)
+    → TellsOn left left (TellsLength status)
+none_taken left status short =
+    TellsOn-same left left (TellsLength status) (λ text. (λ is. absurd (short is), λ above. absurd (omega (arith, above)))) refl

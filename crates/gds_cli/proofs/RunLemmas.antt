@@ -1,0 +1,222 @@
+-- How RUN ends, and what a crash leaves of it.
+use Rattle.std.proofs.Common.{◌≡◌, ◌⊎◌, ℕ, ◌<◌, ◌++◌, List, [], length, take, Option, None, Some, Result, Ok, Err}
+use Rattle.std.proofs.Common.{⊎_elim, inl, inr, refl, sym, ap, subst, ◌∙◌, append-nil, arith, true}
+use Rattle.std.specs.Prelude.{◌↔◌, IfErr}
+use Rattle.std.specs.Option.{ForSome}
+use Rattle.host_model.specs.Failures.{Failures, NeverFell, Rose}
+use Rattle.host_model.specs.Files.{Contents, saying}
+use Rattle.host_model.specs.Told.{TellsOn}
+use Rattle.host_model.proofs.FrameLemmas.{TellsOn-some, TellsOn-then, TellsOn-weaker}
+use Rattle.gds_images.specs.Chain.{chain_of}
+use Rattle.gds_images.specs.Recovered.{recovered, recovered_by}
+use Rattle.gds_law.specs.Faults.{AreFaults}
+use Rattle.gds_law.proofs.KeptLemmas.{one_fault_list}
+use Rattle.gds_lines.specs.LinesState.{IsAboveLimit}
+use Rattle.gds_opening.specs.Opening.{FindsFaults}
+use Rattle.gds_recovery.specs.Found.{FindsSame}
+use Rattle.gds_script.specs.Answer.{answer_lines}
+use Rattle.gds_run.specs.Run.{Breaks, IsBrokenRun, IsRun, LeavesPrefixes, Opens}
+use Rattle.gds_run.specs.Ending as run
+use Rattle.gds_run.specs.declared.error.RunError.{RunError}
+use Rattle.gds_run.specs.declared.error.RunError.TheVariants as error
+use Rattle.m_key.specs.Globals.{Globals}
+use Rattle.gds_cli.specs.declared.status.Status.{Status}
+use Rattle.gds_cli.specs.declared.status.Status.TheVariants as ended
+use Rattle.gds_cli.specs.Answer.{Ends, IsGiven, Leaves, RefusalDue, Reply, RunBreaksOff, RunDue, SaysFront, bad_images, unsound}
+use Rattle.gds_cli.specs.Run.{GivesStatus, IsSilent, RunEnds, SaidOrBroken, SaysWhy, status_of}
+use Rattle.gds_cli.specs.Saying.{Answers, SaysFrontOf}
+use Rattle.gds_cli.specs.Status.{HasCause, MayEnd, is_break}
+use Rattle.gds_cli.proofs.DueLemmas.{goes_on, goes_untold, match_both}
+use Rattle.gds_cli.proofs.EndsLemmas.{TellsLength, breaks_as}
+use Rattle.host_model.proofs.FailureLemmas.{Rose-then, then-Rose}
+use Rattle.gds_words.specs.declared.words.BadWords.{BadWords}
+use Rattle.gds_words.specs.declared.words.Command.{Command}
+use Rattle.gds_words.specs.declared.words.Command.TheVariants.{Run}
+
+-- ---- why files can't be opened
+
+abbrev pub BadAt : Contents → Reply → Type 0
+BadAt c reply = (at : ℕ) × (chain_of c.images (length c.db) ≡ Err at) × (reply ≡ bad_images at)
+
+abbrev pub HasSome : Contents → Reply → Type 0
+HasSome c reply = (faults : ℕ) × (faults ≡ 0 → ⊥) × FindsFaults faults c × (reply ≡ unsound faults)
+
+-- no database is recovered where the chain of images is bad
+none_recovered : (db images : List ℕ) (at : ℕ) → chain_of images (length db) ≡ Err at → recovered db images ≡ None
+unfolding recovered
+none_recovered db images at bad = ap (recovered_by db images) bad
+
+same_error : (a b : ℕ) → (let E : ℕ → Result (Unit {0}) ℕ = λ n. Err n in E a ≡ E b) → a ≡ b
+same_error a b same = cc
+
+bad_once : (c : Contents) (r s : Reply) → BadAt c r → BadAt c s → r ≡ s
+bad_once c r s p q = let same : p.0 ≡ q.0 = let first = p.1 in let second = q.1 in cc in
+    p.2 ∙ ap bad_images same ∙ sym q.2
+
+not_found : (c : Contents) (r s : Reply) → BadAt c r → HasSome c s → ⊥
+not_found c r s p q =
+    let none = none_recovered c.db c.images p.0 p.1 in let some = q.2.found in cc
+
+some_once : (c : Contents) (r s : Reply) → HasSome c r → HasSome c s → r ≡ s
+some_once c r s p q =
+    let found : p.2.file ≡ q.2.file = let first = p.2.found in let second = q.2.found in cc in
+    let faults = (one_fault_list q.2.file).1 p.2.has.faults q.2.has.faults
+    (subst (λ file. AreFaults file p.2.has.faults) found p.2.has.are) q.2.has.are in
+    let same : p.0 ≡ q.0 = p.2.has.counted ∙ ap length faults ∙ sym q.2.has.counted in
+    p.3 ∙ ap unsound same ∙ sym q.3
+
+pub one_refusal : (c : Contents) (r s : Reply) → RefusalDue c r → RefusalDue c s → r ≡ s
+one_refusal c r s p q =
+    ⊎_elim
+    (λ (a : BadAt c r). ⊎_elim (λ (b : BadAt c s). bad_once c r s a b) (λ (b : HasSome c s). absurd (not_found c r s a b)) q)
+    (λ (a : HasSome c r). ⊎_elim (λ (b : BadAt c s). absurd (not_found c s r b a)) (λ (b : HasSome c s). some_once c r s a b) q)
+    p
+
+-- files that open aren't refused
+pub not_refused : (c : Contents) (reply : Reply) (image : List ℕ) (m : Globals) → Opens c image m → RefusalDue c reply → ⊥
+not_refused c reply image m opens due =
+    ⊎_elim
+    (λ (bad : BadAt c reply).
+    let none = none_recovered c.db c.images bad.0 bad.1 in let some = opens.recovers in cc)
+    (λ (faulty : HasSome c reply).
+    let found : faulty.2.file ≡ image = let first = faulty.2.found in let second = opens.recovers in cc in
+    let faults = (one_fault_list image).1 faulty.2.has.faults []
+    (subst (λ file. AreFaults file faulty.2.has.faults) found faulty.2.has.are) opens.stands.faultless in
+    faulty.1 (faulty.2.has.counted ∙ ap length faults))
+    due
+
+-- ---- how a run ends
+
+pub ends_run : (input : List ℕ) (told now : Option Contents) → TellsOn told now (IsRun input)
+    → TellsOn told now (RunEnds input ended.Done)
+ends_run input told now ran =
+    TellsOn-weaker told now (IsRun input) (RunEnds input ended.Done)
+    (λ before after is. record {
+      reply = record { text = answer_lines is.answers; status = ended.Done };
+      is_due = inl (is, refl);
+      ends = refl;
+      says = is.said;
+    })
+    ran
+
+-- the run broke off, and nothing more was said
+broken_ends : (input : List ℕ) (status : Status) (before after : Contents) → is_break status ≡ true
+    → Breaks input before after → RunEnds input status before after
+broken_ends input status before after is breaks =
+    let broken : RunBreaksOff input before after =
+    ⊎_elim
+    (λ (same : after.said ≡ before.said).
+    inr (record { text = []; says = same ∙ sym (append-nil before.said); front = λ reply later due. (0, refl) }))
+    (λ (cut : IsBrokenRun input before after). inl cut)
+    breaks in
+    breaks_as (RunDue input before) (RunBreaksOff input before after) status before after is broken
+
+silent_ends : (input : List ℕ) (told mid now : Option Contents) (status wanted : Status) → status ≡ wanted
+    → is_break wanted ≡ true → TellsOn told mid (Breaks input) → TellsOn mid now (λ before after. after ≡ before)
+    → TellsOn told now (RunEnds input status)
+silent_ends input told mid now status wanted is broke breaks says =
+    TellsOn-then told mid now (Breaks input) (λ before after. after ≡ before) (RunEnds input status)
+    (λ x y z was same.
+    broken_ends input status x z (ap is_break is ∙ broke) (subst (λ (c : Contents). Breaks input x c) (sym same) was))
+    breaks says
+
+-- it was said why the files can't be opened
+refused_ends : (input : List ℕ) (reply : Reply) (status : Status) (before mid after : Contents)
+    → RefusalDue before reply → FindsSame before mid → Answers reply status mid after
+    → RunEnds input status before after
+refused_ends input reply status before mid after due same answered =
+    match_both (is_break status) _ _ _ _
+    (λ (front : SaysFrontOf reply.text mid after).
+    inr (record {
+      text = take front.0 reply.text;
+      says = more_said before mid after (take front.0 reply.text) same front.1;
+      front = λ other later is.
+          (front.0, ap (λ (r : Reply). take front.0 r.text) (one_refusal before reply other due is));
+    }))
+    (λ (whole : (status ≡ reply.status) × (after ≡ saying mid reply.text)).
+    record {
+      reply = reply;
+      is_due = inr (due, ap (λ (c : Contents). recovered c.db c.images) whole.1 ∙ same.found);
+      ends = whole.0;
+      says = more_said before mid after reply.text same whole.1;
+    })
+    answered
+  where
+    more_said : (before mid after : Contents) (text : List ℕ) → FindsSame before mid → after ≡ saying mid text
+        → after.said ≡ before.said ++ text
+    more_said before mid after text same is =
+        ap (λ (c : Contents). c.said) is ∙ ap (λ (said : List ℕ). said ++ text) same.said
+
+refused_told : (input : List ℕ) (reply : Reply) (status : Status) (told mid now : Option Contents)
+    → ForSome told (λ c. RefusalDue c reply) → TellsOn told mid FindsSame → TellsOn mid now (Answers reply status)
+    → TellsOn told now (RunEnds input status)
+refused_told input reply status told mid now due same says =
+    goes_on told now (RunEnds input status) (λ before tells.
+    let x = TellsOn-some told mid FindsSame before tells same in
+    let y = TellsOn-some mid now (Answers reply status) x.0 x.1 says in
+    (y.0, y.1, refused_ends input reply status before x.0 y.0 (due before tells) x.2 y.2))
+
+-- ---- an error
+
+-- what is known of the two counts, of the host's failures and of the source's, and of what the source has left
+module _ (told : Option Contents) (f g h : Failures) (left rest : Option (List ℕ)) (failed fails : ℕ) where
+  abbrev pub Why : RunError → Type 0
+  Why e = run.HasCause told f g left rest failed fails e
+
+  pub ends_why : (input : List ℕ) (mid now : Option Contents) (e : RunError) (status : Status) → Why e
+      → TellsOn told mid (Breaks input) → (run.IsRefusal e → TellsOn told mid FindsSame) → GivesStatus e status g h
+      → TellsOn mid now (SaysWhy e status) → TellsOn told now (RunEnds input status)
+  ends_why input mid now error.Memory status why breaks same gives says =
+      silent_ends input told mid now status ended.Memory gives refl breaks says
+  ends_why input mid now error.ReadFault status why breaks same gives says =
+      silent_ends input told mid now status ended.ReadFault gives refl breaks says
+  ends_why input mid now error.WriteFault status why breaks same gives says =
+      silent_ends input told mid now status ended.WriteFault gives refl breaks says
+  ends_why input mid now error.SayFault status why breaks same gives says =
+      silent_ends input told mid now status ended.SayFault gives refl breaks says
+  ends_why input mid now error.InputFault status why breaks same gives says =
+      silent_ends input told mid now status ended.InputFault gives refl breaks says
+  ends_why input mid now error.InputTooLong status why breaks same gives says =
+      silent_ends input told mid now status ended.InputTooLong gives refl breaks says
+  ends_why input mid now (error.BadImages at) status why breaks same gives says =
+      refused_told input (bad_images at) status told mid now (λ c tells. inl (at, why c tells, refl)) (same tt) says
+  ends_why input mid now (error.Unsound faults) status why breaks same gives says =
+      refused_told input (unsound faults) status told mid now (λ c tells. inr (faults, why.0, why.1 c tells, refl))
+      (same tt) says
+  ends_why input mid now (error.Changed unit) status why breaks same gives says =
+      goes_untold told now (RunEnds input status) why
+
+  pub leaves_why : {H : Type 0} {moment : H → ℕ} {left_since : H → ℕ → Contents → Type 0} (input : List ℕ)
+      (host mid now : H) (e : RunError) → Why e → (IsSilent e → now ≡ mid)
+      → ForSome told (λ before. LeavesPrefixes moment left_since input before host mid)
+      → ForSome told (λ before. LeavesPrefixes moment left_since input before host now)
+  leaves_why {H} {moment} {left_since} input host mid now (error.BadImages at) why quiet leaves before tells = λ image m
+      opens. absurd (not_refused before (bad_images at) image m opens (inl (at, why before tells, refl)))
+  leaves_why {H} {moment} {left_since} input host mid now (error.Unsound faults) why quiet leaves before tells =
+      λ image m opens.
+      absurd (not_refused before (unsound faults) image m opens (inr (faults, why.0, why.1 before tells, refl)))
+  leaves_why {H} {moment} {left_since} input host mid now (error.Changed unit) why quiet leaves before tells =
+      let none = why in absurd (cc)
+  leaves_why {H} {moment} {left_since} input host mid now other why quiet leaves before tells =
+      subst (λ (x : H). LeavesPrefixes moment left_since input before host x) (sym (quiet tt)) (leaves before tells)
+
+-- ---- the words are RUN
+
+module _ (command : Result Command BadWords) (is : command ≡ Ok Run) (left : Option (List ℕ)) (text : List ℕ)
+    (given : IsGiven command left text) where
+  is_left : left ≡ Some text
+  is_left = let P : Result Command BadWords → Type 0 = λ k. IsGiven k left text in subst P is given
+
+  pub run_ends : (told now : Option Contents) (status : Status)
+      → ((t : List ℕ) → left ≡ Some t → TellsOn told now (RunEnds t status)) → TellsOn told now (Ends command text status)
+  run_ends told now status ends =
+      let P : Result Command BadWords → Type 0 = λ k. TellsOn told now (Ends k text status) in
+      subst P (sym is) (ends text is_left)
+
+  pub run_leaves : {H : Type 0} {moment : H → ℕ} {left_since : H → ℕ → Contents → Type 0} (host now : H)
+      (told : Option Contents)
+      → ((t : List ℕ) → left ≡ Some t → ForSome told (λ before. LeavesPrefixes moment left_since t before host now))
+      → ForSome told (λ before. Leaves moment left_since command text host now before)
+  run_leaves {H} {moment} {left_since} host now told leaves before tells =
+      let P : Result Command BadWords → Type 0 = λ k. Leaves moment left_since k text host now before in
+      subst P (sym is) (leaves text is_left before tells)

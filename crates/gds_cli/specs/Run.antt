@@ -1,0 +1,51 @@
+-- How RUN ends, and what it says of an error.
+use Rattle.std.specs.Prelude.{◌≡◌, ◌⊎◌, List, ℕ}
+use Rattle.host_model.specs.Failures.{Failures, Rose}
+use Rattle.host_model.specs.Files.{Contents}
+use Rattle.gds_run.specs.declared.error.RunError.{RunError}
+use Rattle.gds_run.specs.declared.error.RunError.TheVariants as error
+use Rattle.gds_cli.specs.declared.status.Status.{Status}
+use Rattle.gds_cli.specs.declared.status.Status.TheVariants as ended
+use Rattle.gds_cli.specs.Answer.{EndsAs, RunBreaksOff, RunDue, bad_images, changed, unsound}
+use Rattle.gds_cli.specs.Saying.{Answers}
+
+abbrev pub RunEnds : List ℕ → Status → Contents → Contents → Type 0
+RunEnds input status before after =
+    EndsAs (RunDue input before) (RunBreaksOff input before after) status before after
+
+-- the status of an error of which nothing is said, or of its line
+abbrev pub status_of : RunError → Status
+status_of error.Memory = ended.Memory
+status_of error.ReadFault = ended.ReadFault
+status_of error.WriteFault = ended.WriteFault
+status_of error.SayFault = ended.SayFault
+status_of error.InputFault = ended.InputFault
+status_of error.InputTooLong = ended.InputTooLong
+status_of (error.BadImages at) = ended.BadImages
+status_of (error.Unsound faults) = ended.Unsound
+status_of (error.Changed unit) = ended.Changed
+
+-- What is wrong with the files is said, and of another error nothing.
+abbrev pub SaysWhy : RunError → Status → Contents → Contents → Type 0
+SaysWhy (error.BadImages at) status before after = Answers (bad_images at) status before after
+SaysWhy (error.Unsound faults) status before after = Answers (unsound faults) status before after
+SaysWhy (error.Changed unit) status before after = Answers (changed unit) status before after
+SaysWhy other status before after = after ≡ before
+
+-- A line with this status was said, or memory ran out, or saying failed.
+abbrev pub SaidOrBroken : Status → Status → Failures → Failures → Type 0
+SaidOrBroken wanted status before now =
+    (status ≡ wanted) ⊎ ((status ≡ ended.Memory) ⊎ ((status ≡ ended.SayFault) × Rose before.say now.say))
+
+abbrev pub GivesStatus : RunError → Status → Failures → Failures → Type 0
+GivesStatus (error.BadImages at) status before now = SaidOrBroken ended.BadImages status before now
+GivesStatus (error.Unsound faults) status before now = SaidOrBroken ended.Unsound status before now
+GivesStatus (error.Changed unit) status before now = SaidOrBroken ended.Changed status before now
+GivesStatus other status before now = status ≡ status_of other
+
+-- the errors of which nothing is said
+abbrev pub IsSilent : RunError → Type 0
+IsSilent (error.BadImages at) = ⊥
+IsSilent (error.Unsound faults) = ⊥
+IsSilent (error.Changed unit) = ⊥
+IsSilent other = Unit {0}

@@ -1,0 +1,79 @@
+ghost use Rattle.std.specs.Prelude.{◌≡◌, ◌↔◌, ℕ, List, Ok, Some};
+ghost use Rattle.std.specs.Option.{ForSome};
+ghost use Rattle.host_model.specs.Failures.{NeverFell, Rose};
+ghost use Rattle.host_model.specs.Frames.{WasUsed};
+ghost use Rattle.host_model.specs.Told.{TellsOn};
+ghost use Rattle.gds_lines.specs.LinesState.{IsAboveLimit, IsEnd};
+ghost use Rattle.gds_run.specs.Run.{LeavesPrefixes};
+ghost use Rattle.gds_words.specs.declared.words.Command.TheVariants.{Run};
+ghost use Rattle.gds_cli.specs.Status.{HasCause, MayEnd};
+ghost use Rattle.gds_cli.specs.Run.{GivesStatus, IsSilent, RunEnds, SaysWhy};
+
+use crate::call::Ended;
+use crate::saying::say_number;
+use crate::status::Status;
+use gds_run::{Ran, RunError};
+use host_model::{Host, Source};
+use std::alloc::Global;
+
+/// Opens the database and answers the lines of the input. Where it can't be opened it says why.
+pub(crate) fn run<H: Host, I: Source>(alloc: Global, host: H, input: I) -> Ended<H, I>
+    ensures host { (text : List ℕ) → I.left input ≡ Some text
+        → TellsOn (H.told host) (H.told result.host) (RunEnds text result.status) }
+    ensures crash { (text : List ℕ) → I.left input ≡ Some text → ForSome (H.told host)
+        (λ before. LeavesPrefixes H.moment H.left_since text before host result.host) }
+    ensures status { MayEnd (Ok Run) result.status }
+    ensures cause { HasCause result.status (H.failures host) (H.failures result.host) }
+    ensures input_cause { result.status ≡ Status.InputFault → Rose (I.failures input) (I.failures result.input) }
+    ensures too_long { TellsOn (I.left input) (I.left result.input)
+        (λ text rest. (result.status ≡ Status.InputTooLong) ↔ IsAboveLimit text rest) }
+    ensures rest { TellsOn (I.left input) (I.left result.input) IsEnd }
+    ensures failures { NeverFell (H.failures host) (H.failures result.host) }
+{
+    let Ran {
+        result,
+        host,
+        input,
+    } = gds_run::run(alloc, host, input);
+    let mut host = host;
+    match result {
+        Ok(()) => Ended {
+            status: Status::Done,
+            host,
+            input,
+        },
+        Err(error) => {
+            let status = say_why(alloc, &mut host, error);
+            Ended {
+                status,
+                host,
+                input,
+            }
+        }
+    }
+}
+
+/// Says what is wrong with the files, where that is why a run ended. Answers the status of the error.
+fn say_why<H: Host>(alloc: Global, host: &mut H, error: RunError) -> Status
+    ensures host { WasUsed H.told H.failures host.old host.new (SaysWhy error result) }
+    ensures silent { IsSilent error → host.new ≡ host.old }
+    ensures status { GivesStatus error result (H.failures host.old) (H.failures host.new) }
+{
+    match error {
+        RunError::Memory => Status::Memory,
+        RunError::ReadFault => Status::ReadFault,
+        RunError::WriteFault => Status::WriteFault,
+        RunError::SayFault => Status::SayFault,
+        RunError::InputFault => Status::InputFault,
+        RunError::InputTooLong => Status::InputTooLong,
+        RunError::BadImages { at } => say_number(alloc, host, "BADIMAGES", at, Status::BadImages),
+        RunError::Unsound { faults } => say_number(alloc, host, "UNSOUND", faults, Status::Unsound),
+        RunError::Changed { unit } => say_number(
+            alloc,
+            host,
+            "CHANGED",
+            u64::from(unit),
+            Status::Changed,
+        ),
+    }
+}
