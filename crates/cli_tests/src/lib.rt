@@ -13,3 +13,5 @@ mod failures;
 mod faults;
 #[cfg(test)]
 mod files;
+#[cfg(test)]
+mod run;

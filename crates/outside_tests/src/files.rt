@@ -115,9 +115,16 @@ fn calls_change_the_file_that_is_named(rt: HostRuntime) -> Result<(), Fail> {
 #[test]
 fn calls_fail_on_a_directory(rt: HostRuntime) -> Result<(), Fail> {
     let mut host = FileHost::new(&rt, rt.alloc(), "/")?;
-    let steps = [Step::Len, Step::Read(0), Step::Write(0, b"x")];
+    let steps = [
+        Step::Len,
+        Step::Read(0),
+        Step::Write(0, b"x"),
+        Step::Cut(0),
+        Step::Sync,
+    ];
     let told = make_calls(rt.alloc(), &mut host, FileNo::Db, &steps)?;
-    assert_eq!(rt; told.numbers.as_slice(), [None; 3].as_slice());
+    let numbers = [None, None, None, None, Some(0)];
+    assert_eq!(rt; told.numbers.as_slice(), numbers.as_slice());
     Ok(())
 }
 
