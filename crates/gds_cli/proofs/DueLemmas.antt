@@ -170,7 +170,8 @@ goes_ends (Some c) mid now due reply status known answered =
     (λ d. ends_of (due c) reply status c d at.is at.only) (subst P at.same answered)
 
 -- one reply alone is due, and it was said
-pub goes_reply : (told now : Option Contents) (reply : Reply) (status : Status) → TellsOn told now (Answers reply status)
+pub goes_reply : (told now : Option Contents) (reply : Reply) (status : Status)
+    → TellsOn told now (Answers reply status)
     → TellsOn told now (λ before after. OnlySays (λ r. r ≡ reply) status before after)
 goes_reply told now reply status answered =
     goes_ends told told now (λ c r. r ≡ reply) reply status

@@ -35,7 +35,8 @@ Quietly due before reply after = SameFiles before after × due reply
 -- it ends by saying a reply, or breaks off and leaves the files as they are
 abbrev pub QuietEnds : (Reply → Type 0) → Status → Contents → Contents → Type 0
 QuietEnds due status before after =
-    EndsAs (Quietly due before) (SaysFront (Quietly due before) before after × SameFiles before after) status before after
+    EndsAs (Quietly due before) (SaysFront (Quietly due before) before after × SameFiles before after) status before
+    after
 
 quiet_ends : (due : Reply → Type 0) (status : Status) (before after : Contents) → OnlySays due status before after
     → QuietEnds due status before after

@@ -44,7 +44,8 @@ unfolding recovered
 none_recovered db images at bad = ap (recovered_by db images) bad
 
 -- files that open aren't refused
-pub not_refused : (c : Contents) (reply : Reply) (image : List ℕ) (m : Globals) → Opens c image m → RefusalDue c reply → ⊥
+pub not_refused : (c : Contents) (reply : Reply) (image : List ℕ) (m : Globals) → Opens c image m
+    → RefusalDue c reply → ⊥
 not_refused c reply image m opens due =
     ⊎_elim
     (λ (bad : BadAt c reply).
@@ -168,7 +169,8 @@ module _ (command : Result Command BadWords) (is : command ≡ Ok Run) (left : O
   is_left = let P : Result Command BadWords → Type 0 = λ k. IsGiven k left text in subst P is given
 
   pub run_ends : (told now : Option Contents) (status : Status)
-      → ((t : List ℕ) → left ≡ Some t → TellsOn told now (RunEnds t status)) → TellsOn told now (Ends command text status)
+      → ((t : List ℕ) → left ≡ Some t → TellsOn told now (RunEnds t status))
+      → TellsOn told now (Ends command text status)
   run_ends told now status ends =
       let P : Result Command BadWords → Type 0 = λ k. TellsOn told now (Ends k text status) in
       subst P (sym is) (ends text is_left)

@@ -1,5 +1,6 @@
 -- What each command says, how it ends, and what it leaves of the two files, at its end and at each moment.
-use Rattle.std.specs.Prelude.{◌≡◌, ◌≢◌, ◌⊎◌, ℕ, MatchBool, List, [], ◌∷◌, ◌++◌, take, length, replicate, Result, Ok, Err}
+use Rattle.std.specs.Prelude.{◌≡◌, ◌≢◌, ◌⊎◌, ℕ, MatchBool, List, []}
+use Rattle.std.specs.Prelude.{◌∷◌, ◌++◌, take, length, replicate, Result, Ok, Err}
 use Rattle.std.specs.Prelude.{Option, Some, codes}
 use Rattle.std.specs.Fmt.{decimal}
 use Rattle.std.specs.FinMap.{empty}

@@ -1,5 +1,6 @@
 -- What a run on a database that was opened says of the whole call.
-use Rattle.std.proofs.Common.{◌≡◌, ℕ, ◌≤◌, ◌<◌, List, [], Option, None, Some, refl, sym, ap, subst, ◌∙◌, inl, inr, ⊎_elim}
+use Rattle.std.proofs.Common.{◌≡◌, ℕ, ◌≤◌, ◌<◌, List, [], Option, None}
+use Rattle.std.proofs.Common.{Some, refl, sym, ap, subst, ◌∙◌, inl, inr, ⊎_elim}
 use Rattle.std.proofs.Common.{arith}
 use Rattle.std.proofs.lemmas.Bool.{false≢true}
 use Rattle.std.specs.Option.{ForSome}
@@ -77,7 +78,8 @@ cause_opened told mid a b d left rest failed fails error.ReadFault none first te
     omega (arith, first.read, cause)
 cause_opened told mid a b d left rest failed fails error.WriteFault none first tells cause =
     omega (arith, first.write, cause)
-cause_opened told mid a b d left rest failed fails error.SayFault none first tells cause = omega (arith, first.say, cause)
+cause_opened told mid a b d left rest failed fails error.SayFault none first tells cause =
+    omega (arith, first.say, cause)
 cause_opened told mid a b d left rest failed fails error.InputFault none first tells cause = cause
 cause_opened told mid a b d left rest failed fails error.InputTooLong none first tells cause = cause
 cause_opened told mid a b d left rest failed fails (error.BadImages at) none first tells cause = absurd (none tt)

@@ -157,7 +157,8 @@ module _ {H : Type 0} (told : H → Option Contents) (counts : H → Failures) w
     tells = ends.tells;
     cause = ends.cause;
     took = ends.took;
-    too_long = λ more. ap (λ (error : RunError). Err error) (err_is S e error.InputTooLong (Err e) refl (ends.too_long more));
+    too_long = λ more.
+        ap (λ (error : RunError). Err error) (err_is S e error.InputTooLong (Err e) refl (ends.too_long more));
     fails = ends.fails;
   }
 

@@ -89,7 +89,8 @@ module _ {H : Type 0} (old new : UnitsState H) (p : Place)
   set_made value limits new_limits new_fields has map used differs header before is =
       let uses : List ℕ → List ℕ → Type 0 =
       λ image file. UsesAtMost 32 image file × DiffersInAtMost 64 image file in
-      let at = TellsOn-some (image_of old) (image_of new) (λ image file. IsAfterSet p value image file × uses image file)
+      let at = TellsOn-some (image_of old) (image_of new)
+      (λ image file. IsAfterSet p value image file × uses image file)
       before.image is.image_is (both (image_of old) (image_of new) (IsAfterSet p value) uses map
       (both (image_of old) (image_of new) (UsesAtMost 32) (DiffersInAtMost 64) used differs)) in
       let file : List ℕ = at.0 in

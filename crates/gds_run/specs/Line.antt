@@ -1,5 +1,6 @@
 -- A line of the input, as it was read.
-use Rattle.std.specs.Prelude.{◌≡◌, ◌⊎◌, ◌↔◌, ℕ, ◌<◌, ◌≤◌, false, List, IfErr, IfOk, OnOk, OnSome, Option, None, Some, Result}
+use Rattle.std.specs.Prelude.{◌≡◌, ◌⊎◌, ◌↔◌, ℕ, ◌<◌, ◌≤◌, false, List}
+use Rattle.std.specs.Prelude.{IfErr, IfOk, OnOk, OnSome, Option, None, Some, Result}
 use Rattle.host_model.specs.Failures.{Rose}
 use Rattle.host_model.specs.Told.{TellsOn}
 use Rattle.gds_lines.specs.declared.TheConstants.{INPUT_LIMIT}

@@ -1,5 +1,6 @@
 -- How far the lines of a script were answered.
-use Rattle.std.specs.Prelude.{◌≡◌, ℕ, ◌+◌, ◌≤◌, List, [], ◌∷◌, ◌++◌, Contains, length, take, Option, Some, Result, Ok, Err}
+use Rattle.std.specs.Prelude.{◌≡◌, ℕ, ◌+◌, ◌≤◌, List, [], ◌∷◌, ◌++◌}
+use Rattle.std.specs.Prelude.{Contains, length, take, Option, Some, Result, Ok, Err}
 use Rattle.std.specs.Prelude.{MatchResult}
 use Rattle.host_model.specs.Files.{Contents}
 use Rattle.host_model.specs.Moments.{EachLeft, LeavesOnly}
@@ -58,7 +59,8 @@ module _ {H : Type 0} (tells : H → Option Contents) (moment : H → ℕ) (left
     pub changes_are : changes ≡ state.changes
     -- what a crash leaves
     pub each : EachLeft moment left_since base.host (FindsOne
-        (IsKept o.map (done.told ++ done.waiting) (done.told_changes ++ done.waiting_changes) (length done.told_changes))
+        (IsKept o.map (done.told ++ done.waiting) (done.told_changes ++ done.waiting_changes)
+        (length done.told_changes))
         (o.said ++ answer_lines done.told))
     pub only : LeavesOnly moment left_since o.host base.host (IsAfterPrefix o.script o.map o.said)
 

@@ -1,4 +1,5 @@
-ghost use Rattle.std.specs.Prelude.{◌≡◌, ◌^◌, ◌<◌, ◌≤◌, ◌∷◌, [], ℕ, List, false, IfOk, IsFalse, OnOk, OnSome, Some, codes};
+ghost use Rattle.std.specs.Prelude.{◌≡◌, ◌^◌, ◌<◌, ◌≤◌, ◌∷◌, [], ℕ};
+ghost use Rattle.std.specs.Prelude.{List, false, IfOk, IsFalse, OnOk, OnSome, Some, codes};
 ghost use Rattle.std.specs.Option.{ForSome};
 ghost use Rattle.host_model.specs.Told.{TellsOn};
 ghost use Rattle.gds_lines.specs.declared.TheConstants.{INPUT_LIMIT};

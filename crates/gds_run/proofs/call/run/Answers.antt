@@ -48,5 +48,6 @@ returns-in-Ok-clause-ends g c =
 pub returns-in-Err-clause-crash : goal.returns-in-Err-clause-crash
 returns-in-Err-clause-crash g c =
     let h = g.H.Host in
-    crash_refused h.told h.moment h.left_since g.met.H.Host.longer c.args.host c.in-Err.returned (g.I.Source.left c.args.input)
+    crash_refused h.told h.moment h.left_since g.met.H.Host.longer c.args.host c.in-Err.returned
+    (g.I.Source.left c.args.input)
     c.in-Err.ensures.any_moment

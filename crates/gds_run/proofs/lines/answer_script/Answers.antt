@@ -23,7 +23,8 @@ returns-in-Err g c =
     record {
       run = λ o text is script p.
           let goes = c.in-Err.ensures.run o text is
-          (subst (λ lines. Progress h.told h.moment h.left_since o lines old.base old.waiting.items old.changes) script p)
+          (subst (λ lines. Progress h.told h.moment h.left_since o lines old.base old.waiting.items old.changes)
+          script p)
           in
           let left = through_left h.told h.moment h.left_since o mid.base mid.waiting.items mid.changes c.in-Err.error
           (codes "EPOCH" ∷ []) other goes in
