@@ -1,7 +1,6 @@
 -- How CREATE ends, and what a crash leaves of it.
-use Rattle.std.proofs.Common.{◌≡◌, ◌⊎◌, ◌≤◌, ℕ, List, [], ◌++◌, take}
-use Rattle.std.proofs.Common.{Option, Some, ⊎_elim, inl, inr, refl, sym, ap, ◌∙◌}
-use Rattle.std.proofs.Common.{None, append-nil, subst, true}
+use Rattle.std.proofs.Common.{◌≡◌, ◌⊎◌, ◌≤◌, ℕ, List, [], ◌++◌, take, Option, Some, ⊎_elim, inl, inr, refl, sym, ap}
+use Rattle.std.proofs.Common.{◌∙◌, None, append-nil, subst, true}
 use Rattle.std.specs.Option.{ForSome}
 use Rattle.host_model.specs.Disk.{SaysSome, during}
 use Rattle.host_model.specs.Files.{Contents, saying}
@@ -9,21 +8,20 @@ use Rattle.host_model.specs.Moments.{EachLeft, HasCome, LeavesBy, LeavesOnly}
 use Rattle.host_model.specs.Told.{TellsOn}
 use Rattle.host_model.proofs.ChainLemmas.{come_by, come_weaker}
 use Rattle.host_model.proofs.FrameLemmas.{TellsOn-same, TellsOn-some, TellsOn-then, TellsOn-weaker}
+use Rattle.host_model.proofs.MomentLemmas.{LeavesTheSame-refl}
 use Rattle.gds_header.specs.Kinds.{IsWithinLimits}
 use Rattle.gds_header.specs.declared.header.Header.{Header}
 use Rattle.gds_images.specs.Recovered.{recovered}
 use Rattle.gds_new.specs.NewDatabase.{new_database}
 use Rattle.gds_new.proofs.SoundLemmas.{stands_read}
 use Rattle.gds_recovery.specs.Found.{EndsReading, IsUnwritten}
-use Rattle.host_model.proofs.MomentLemmas.{LeavesTheSame-refl}
 use Rattle.gds_create.proofs.MakingLemmas.{unwritten_come}
 use Rattle.gds_create.specs.Newborn.{HasBytes, IsEmpty, IsMade, IsNewborn, IsRefused}
 use Rattle.gds_cli.specs.declared.status.Status.{Status}
 use Rattle.gds_cli.specs.declared.status.Status.TheVariants as ended
 use Rattle.gds_cli.specs.Status.{is_break}
-use Rattle.gds_cli.specs.Answer.{AllOrNothing, CreateBreaksOff, BecomesNew, CreateDue}
-use Rattle.gds_cli.specs.Answer.{FindsEmpty, IsRefusedOrEmpty, Reply, SameFiles}
-use Rattle.gds_cli.specs.Answer.{created, not_empty}
+use Rattle.gds_cli.specs.Answer.{AllOrNothing, CreateBreaksOff, BecomesNew, CreateDue, FindsEmpty, IsRefusedOrEmpty}
+use Rattle.gds_cli.specs.Answer.{Reply, SameFiles, created, not_empty}
 use Rattle.gds_cli.specs.Create.{CreateEnds}
 use Rattle.gds_cli.specs.Saying.{Answers, SaysFrontOf}
 use Rattle.gds_cli.proofs.DueLemmas.{goes_on, match_both, not_both}

@@ -1,29 +1,28 @@
 -- Which reply is due, and how a call that says it ends.
-use Rattle.std.proofs.Common.{◌<◌, ◌∷◌, arith, length}
-use Rattle.std.proofs.Common.{◌≡◌, ◌⊎◌, ℕ, Bool, true, false, List, [], take, Option, None, Some, Result, Ok}
-use Rattle.std.proofs.Common.{Err, ⊎_elim, inl, inr, refl, sym, ap, subst, ◌∙◌, append-nil}
+use Rattle.std.proofs.Common.{◌<◌, ◌∷◌, arith, length, ◌≡◌, ◌⊎◌, ℕ, Bool, true, false, List, [], take, Option, None}
+use Rattle.std.proofs.Common.{Some, Result, Ok, Err, ⊎_elim, inl, inr, refl, sym, ap, subst, ◌∙◌, append-nil}
 use Rattle.std.specs.Prelude.{MatchBool, IsSomeAnd}
 use Rattle.std.specs.Option.{ForSome}
 use Rattle.host_model.specs.Files.{Contents, saying}
 use Rattle.host_model.specs.Told.{TellsOn}
 use Rattle.m_key.specs.Globals.{Globals}
 use Rattle.m_text.specs.Extract.{zwr}
+use Rattle.gds_header.specs.declared.header.Header.{Header}
+use Rattle.gds_law.specs.declared.fault.Fault.{Fault}
+use Rattle.gds_law.specs.Faults.{AreFaults}
+use Rattle.gds_law.proofs.KeptLemmas.{one_fault_list}
+use Rattle.gds_new.specs.NewDatabase.{new_database}
+use Rattle.gds_create.specs.Newborn.{HasBytes, IsEmpty, closed_images}
 use Rattle.gds_words.specs.declared.words.Command.{Command}
 use Rattle.gds_words.specs.declared.words.Command.TheVariants.{Version, Integ, Extract, Create, Run}
 use Rattle.gds_words.specs.declared.words.BadWords.{BadWords}
 use Rattle.gds_cli.specs.declared.status.Status.{Status}
 use Rattle.gds_cli.specs.declared.status.Status.TheVariants as ended
 use Rattle.gds_cli.specs.Status.{is_break}
-use Rattle.gds_law.specs.declared.fault.Fault.{Fault}
-use Rattle.gds_law.specs.Faults.{AreFaults}
-use Rattle.gds_law.proofs.KeptLemmas.{one_fault_list}
 use Rattle.gds_cli.specs.Thin.{IsThinWith}
 use Rattle.gds_cli.specs.Answer.{BecomesNew, CreateDue, Due, ExtractDue, FaultsDue, Reply, SameFiles, created}
 use Rattle.gds_cli.specs.Answer.{header_with, list_reply, not_built, not_empty}
 use Rattle.gds_cli.specs.Saying.{Answers, OnlySays, SaysFrontOf}
-use Rattle.gds_create.specs.Newborn.{HasBytes, IsEmpty, closed_images}
-use Rattle.gds_header.specs.declared.header.Header.{Header}
-use Rattle.gds_new.specs.NewDatabase.{new_database}
 use Rattle.gds_cli.specs.Extract.{BreaksOff, SaysThin}
 use Rattle.gds_cli.proofs.LeafLemmas.{one_map}
 

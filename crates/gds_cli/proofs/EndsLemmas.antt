@@ -1,27 +1,26 @@
--- How a call ends: by a command that changes no file, and where nothing failed.
-use Rattle.std.proofs.Common.{Bool, ◌≡◌, ℕ, List, take, Option, Result, Ok, IfOk, refl, ap, subst, sym}
+-- How a call ends, by a command that changes no file or by CREATE.
+use Rattle.std.proofs.Common.{Bool, ◌≡◌, ℕ, List, take, Option, Result, Ok, IfOk, refl, ap, subst, sym, [], true}
+use Rattle.std.specs.Option.{ForSome}
+use Rattle.std.specs.Prelude.{MatchBool}
+use Rattle.arrayvec.specs.ArrayVec.{ArrayVec}
 use Rattle.host_model.specs.Files.{Contents, saying}
 use Rattle.host_model.specs.Told.{TellsOn}
 use Rattle.host_model.proofs.FrameLemmas.{TellsOn-same, TellsOn-weaker}
+use Rattle.host_model.specs.Moments.{EachLeft, LeavesOnly}
+use Rattle.gds_header.specs.declared.header.Header.{Header}
+use Rattle.gds_header.specs.Kinds.{IsWithinLimits}
+use Rattle.gds_create.specs.Newborn.{IsEmpty}
+use Rattle.gds_lines.specs.LinesState.{IsEnd}
 use Rattle.gds_words.specs.declared.words.Command.{Command}
 use Rattle.gds_words.specs.declared.words.Command.TheVariants.{Extract, Create}
 use Rattle.gds_words.specs.declared.words.BadWords.{BadWords}
+use Rattle.gds_words.specs.Words.{MakesHeader}
 use Rattle.gds_cli.specs.declared.status.Status.{Status}
 use Rattle.gds_cli.specs.Status.{is_break}
-use Rattle.gds_cli.specs.Answer.{Ends, EndsAs, ExtractDue, Replies, Reply, SameFiles, SaysFront}
-use Rattle.gds_cli.specs.Answer.{IsRefusedOrEmpty, Leaves, created, header_with}
-use Rattle.std.specs.Option.{ForSome}
-use Rattle.host_model.specs.Moments.{EachLeft, LeavesOnly}
-use Rattle.gds_create.specs.Newborn.{IsEmpty}
-use Rattle.gds_header.specs.declared.header.Header.{Header}
+use Rattle.gds_cli.specs.Answer.{Ends, EndsAs, ExtractDue, Replies, Reply, SameFiles, SaysFront, IsRefusedOrEmpty}
+use Rattle.gds_cli.specs.Answer.{Leaves, created, header_with}
 use Rattle.gds_cli.specs.Create.{CreateEnds}
-use Rattle.gds_words.specs.Words.{MakesHeader}
-use Rattle.gds_header.specs.Kinds.{IsWithinLimits}
-use Rattle.arrayvec.specs.ArrayVec.{ArrayVec}
 use Rattle.gds_cli.specs.Saying.{OnlySays}
-use Rattle.gds_lines.specs.LinesState.{IsEnd}
-use Rattle.std.specs.Prelude.{MatchBool}
-use Rattle.std.proofs.Common.{[], true}
 use Rattle.gds_cli.proofs.DueLemmas.{match_both}
 
 -- saying changes no file

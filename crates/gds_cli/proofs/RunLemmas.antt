@@ -1,23 +1,26 @@
 -- How RUN ends, and what a crash leaves of it.
-use Rattle.std.proofs.Common.{◌≡◌, ℕ, ◌++◌, List, [], length, take, Option, None, Some, Result, Ok, Err}
-use Rattle.std.proofs.Common.{⊎_elim, inl, inr, refl, sym, ap, subst, ◌∙◌, true}
+use Rattle.std.proofs.Common.{◌≡◌, ℕ, ◌++◌, List, [], length, take, Option, None, Some, Result, Ok, Err, ⊎_elim, inl}
+use Rattle.std.proofs.Common.{inr, refl, sym, ap, subst, ◌∙◌, true}
 use Rattle.std.specs.Option.{ForSome}
 use Rattle.host_model.specs.Failures.{Failures}
 use Rattle.host_model.specs.Files.{Contents, saying}
 use Rattle.host_model.specs.Told.{TellsOn}
 use Rattle.host_model.proofs.FrameLemmas.{TellsOn-some, TellsOn-then, TellsOn-weaker}
+use Rattle.m_key.specs.Globals.{Globals}
 use Rattle.gds_images.specs.Chain.{chain_of}
 use Rattle.gds_images.specs.Recovered.{recovered, recovered_by}
 use Rattle.gds_law.specs.Faults.{AreFaults}
 use Rattle.gds_law.proofs.KeptLemmas.{one_fault_list}
-use Rattle.gds_opening.specs.Opening.{FindsFaults}
 use Rattle.gds_recovery.specs.Found.{FindsSame}
+use Rattle.gds_opening.specs.Opening.{FindsFaults}
 use Rattle.gds_script.specs.Answer.{answer_lines}
 use Rattle.gds_run.specs.Run.{Breaks, IsRun, LeavesPrefixes, Opens}
 use Rattle.gds_run.specs.Ending as run
 use Rattle.gds_run.specs.declared.error.RunError.{RunError}
 use Rattle.gds_run.specs.declared.error.RunError.TheVariants as error
-use Rattle.m_key.specs.Globals.{Globals}
+use Rattle.gds_words.specs.declared.words.BadWords.{BadWords}
+use Rattle.gds_words.specs.declared.words.Command.{Command}
+use Rattle.gds_words.specs.declared.words.Command.TheVariants.{Run}
 use Rattle.gds_cli.specs.declared.status.Status.{Status}
 use Rattle.gds_cli.specs.declared.status.Status.TheVariants as ended
 use Rattle.gds_cli.specs.Answer.{Ends, IsGiven, Leaves, RefusalDue, Reply, RunBreaksOff, RunDue, bad_images, unsound}
@@ -26,9 +29,6 @@ use Rattle.gds_cli.specs.Saying.{Answers, SaysFrontOf}
 use Rattle.gds_cli.specs.Status.{is_break}
 use Rattle.gds_cli.proofs.DueLemmas.{goes_on, goes_untold, match_both}
 use Rattle.gds_cli.proofs.EndsLemmas.{breaks_as}
-use Rattle.gds_words.specs.declared.words.BadWords.{BadWords}
-use Rattle.gds_words.specs.declared.words.Command.{Command}
-use Rattle.gds_words.specs.declared.words.Command.TheVariants.{Run}
 
 -- ---- why files can't be opened
 
@@ -119,7 +119,7 @@ refused_told input reply status told mid now due same says =
 
 -- ---- an error
 
--- what is known of the two counts, of the host's failures and of the source's, and of what the source has left
+-- over a host that told this, what it and the source counted, and what the source has left
 module _ (told : Option Contents) (f g h : Failures) (left rest : Option (List ℕ)) (failed fails : ℕ) where
   abbrev pub Why : RunError → Type 0
   Why e = run.HasCause told f g left rest failed fails e

@@ -1,29 +1,28 @@
 -- What each command says, how it ends, and what it leaves of the two files, at its end and at each moment.
-use Rattle.std.specs.Prelude.{◌≡◌, ◌≢◌, ◌⊎◌, ℕ, MatchBool, List, []}
-use Rattle.std.specs.Prelude.{◌∷◌, ◌++◌, take, length, replicate, Result, Ok, Err}
-use Rattle.std.specs.Prelude.{Option, Some, codes}
+use Rattle.std.specs.Prelude.{◌≡◌, ◌≢◌, ◌⊎◌, ℕ, MatchBool, List, [], ◌∷◌, ◌++◌, take, length, replicate, Result, Ok}
+use Rattle.std.specs.Prelude.{Err, Option, Some, codes}
 use Rattle.std.specs.Fmt.{decimal}
 use Rattle.std.specs.FinMap.{empty}
 use Rattle.host_model.specs.Files.{Contents}
 use Rattle.host_model.specs.Moments.{EachLeft, LeavesOnly}
+use Rattle.m_key.specs.Globals.{Globals}
+use Rattle.m_text.specs.Extract.{zwr}
 use Rattle.gds_header.specs.declared.header.Header.{Header}
 use Rattle.gds_images.specs.Chain.{chain_of}
 use Rattle.gds_images.specs.Recovered.{recovered}
-use Rattle.gds_new.specs.NewDatabase.{new_database}
-use Rattle.gds_create.specs.Newborn.{HasBytes, IsEmpty, IsRefused, closed_images}
 use Rattle.gds_law.specs.declared.fault.Fault.{Fault}
 use Rattle.gds_law.specs.Faults.{AreFaults}
 use Rattle.gds_sound.specs.Stands.{StandsFor}
+use Rattle.gds_new.specs.NewDatabase.{new_database}
+use Rattle.gds_create.specs.Newborn.{HasBytes, IsEmpty, IsRefused, closed_images}
 use Rattle.gds_opening.specs.Opening.{FindsFaults}
 use Rattle.gds_script.specs.Answer.{answer_lines}
 use Rattle.gds_run.specs.Run.{Breaks, IsRun, LeavesPrefixes}
-use Rattle.m_key.specs.Globals.{Globals}
-use Rattle.m_text.specs.Extract.{zwr}
-use Rattle.gds_cli.specs.FaultText.{fault_text}
-use Rattle.gds_cli.specs.Thin.{IsThinWith}
 use Rattle.gds_words.specs.declared.words.Command.{Command}
 use Rattle.gds_words.specs.declared.words.Command.TheVariants.{Version, Integ, Extract, Create, Run}
 use Rattle.gds_words.specs.declared.words.BadWords.{BadWords}
+use Rattle.gds_cli.specs.FaultText.{fault_text}
+use Rattle.gds_cli.specs.Thin.{IsThinWith}
 use Rattle.gds_cli.specs.declared.status.Status.{Status}
 use Rattle.gds_cli.specs.declared.status.Status.TheVariants as ended
 use Rattle.gds_cli.specs.Status.{is_break}

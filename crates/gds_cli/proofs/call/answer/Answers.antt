@@ -1,6 +1,6 @@
 use Rattle.std.proofs.Common.{◌≡◌, Ok, Err}
-use Rattle.gds_cli.specs.Answer.{bad_words, version}
 use Rattle.gds_words.specs.declared.words.Command.TheVariants.{Version}
+use Rattle.gds_cli.specs.Answer.{bad_words, version}
 use Rattle.gds_cli.proofs.DueLemmas.{goes_reply}
 use Rattle.gds_cli.proofs.EndsLemmas.{all_left, create_ends, create_leaves, extract_ends, header_limits, quietly}
 use Rattle.gds_cli.proofs.RunLemmas.{run_ends, run_leaves}

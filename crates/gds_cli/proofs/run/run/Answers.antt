@@ -16,6 +16,6 @@ returns-in-Err-clause-host g c text given =
 pub returns-in-Err-clause-crash : goal.returns-in-Err-clause-crash
 returns-in-Err-clause-crash g c text given =
     let why = rw c.in-Err.is at c.run-result.ensures.ends.cause in
-    leaves_why _ _ _ (g.H.Host.failures c.say_why-status.new.host) _ _ _ _ text _ _ _ c.in-Err.error why
-    c.say_why-status.ensures.silent
+    let says = c.say_why-status in
+    leaves_why _ _ _ (g.H.Host.failures says.new.host) _ _ _ _ text _ _ _ c.in-Err.error why says.ensures.silent
     (c.run-result.ensures.crash text given)
