@@ -36,7 +36,7 @@ fn words_have_their_answers(rt: HostRuntime) -> Result<(), Fail> {
         ("small letters", &["Version"], "GDSPROF1\n", 0),
         ("no words", &[], "BADWORDS 0\n", 7),
         ("no command", &["VERIFY", "-FAST"], "BADWORDS 0\n", 7),
-        ("not built yet", &["RUN"], "BADWORDS 0\n", 7),
+        ("no database", &["RUN"], "UNSOUND 1\n", 10),
         ("bad number", &["CREATE", "-KEY=2"], "BADWORDS 1\n", 7),
         ("word too many", &["INTEG", "-FAST"], "BADWORDS 1\n", 7),
         ("stamp", &["extract", "-stamp=x y~"], "NOTBUILT\n", 22),

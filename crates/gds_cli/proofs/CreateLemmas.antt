@@ -1,7 +1,6 @@
 -- How CREATE ends, and what a crash leaves of it.
 use Rattle.std.proofs.Common.{◌≡◌, ◌⊎◌, ◌≤◌, ℕ, List, [], ◌++◌, take, Option, Some, ⊎_elim, inl, inr, refl, sym, ap, ◌∙◌}
-use Rattle.std.proofs.Common.{Bool, None, append-nil, subst, true}
-use Rattle.std.specs.Prelude.{MatchBool}
+use Rattle.std.proofs.Common.{None, append-nil, subst, true}
 use Rattle.std.specs.Option.{ForSome}
 use Rattle.host_model.specs.Disk.{SaysSome, during}
 use Rattle.host_model.specs.Files.{Contents, saying}
@@ -22,7 +21,7 @@ use Rattle.gds_cli.specs.declared.status.Status.{Status}
 use Rattle.gds_cli.specs.declared.status.Status.TheVariants as ended
 use Rattle.gds_cli.specs.Status.{is_break}
 use Rattle.gds_cli.specs.Answer.{AllOrNothing, CreateBreaksOff, BecomesNew, CreateDue, FindsEmpty, IsRefusedOrEmpty, Reply, SameFiles}
-use Rattle.gds_cli.specs.Answer.{Replies, SaysFront, created, not_empty}
+use Rattle.gds_cli.specs.Answer.{created, not_empty}
 use Rattle.gds_cli.specs.Create.{CreateEnds}
 use Rattle.gds_cli.specs.Saying.{Answers, SaysFrontOf}
 use Rattle.gds_cli.proofs.DueLemmas.{goes_on, match_both, not_both}

@@ -1,16 +1,14 @@
 -- How a call ends: by a command that changes no file, and where nothing failed.
-use Rattle.std.proofs.Common.{Bool, ◌≡◌, ◌⊎◌, ℕ, List, take, Option, Result, Ok, Err, IfOk, inl, inr, refl, ap, subst, sym}
+use Rattle.std.proofs.Common.{Bool, ◌≡◌, ℕ, List, take, Option, Result, Ok, IfOk, refl, ap, subst, sym}
 use Rattle.host_model.specs.Files.{Contents, saying}
-use Rattle.host_model.specs.Failures.{Failures, NoneRose}
 use Rattle.host_model.specs.Told.{TellsOn}
-use Rattle.host_model.proofs.FrameLemmas.{TellsOn-same, TellsOn-some, TellsOn-weaker}
+use Rattle.host_model.proofs.FrameLemmas.{TellsOn-same, TellsOn-weaker}
 use Rattle.gds_words.specs.declared.words.Command.{Command}
-use Rattle.gds_words.specs.declared.words.Command.TheVariants.{Version, Integ, Extract, Create, Run}
+use Rattle.gds_words.specs.declared.words.Command.TheVariants.{Extract, Create}
 use Rattle.gds_words.specs.declared.words.BadWords.{BadWords}
 use Rattle.gds_cli.specs.declared.status.Status.{Status}
-use Rattle.gds_cli.specs.declared.status.Status.TheVariants as ended
-use Rattle.gds_cli.specs.Status.{HasCause, MayEnd, is_break}
-use Rattle.gds_cli.specs.Answer.{BreaksOff, Due, Ends, EndsAs, ExtractDue, IsGiven, Replies, Reply, SameFiles, SaysFront}
+use Rattle.gds_cli.specs.Status.{is_break}
+use Rattle.gds_cli.specs.Answer.{Ends, EndsAs, ExtractDue, Replies, Reply, SameFiles, SaysFront}
 use Rattle.gds_cli.specs.Answer.{IsRefusedOrEmpty, Leaves, created, header_with}
 use Rattle.std.specs.Option.{ForSome}
 use Rattle.host_model.specs.Moments.{EachLeft, LeavesOnly}
@@ -21,10 +19,9 @@ use Rattle.gds_words.specs.Words.{MakesHeader}
 use Rattle.gds_header.specs.Kinds.{IsWithinLimits}
 use Rattle.arrayvec.specs.ArrayVec.{ArrayVec}
 use Rattle.gds_cli.specs.Saying.{OnlySays}
-use Rattle.gds_lines.specs.LinesState.{IsAboveLimit, IsEnd}
-use Rattle.gds_lines.specs.declared.TheConstants.{INPUT_LIMIT}
-use Rattle.std.specs.Prelude.{◌↔◌, MatchBool}
-use Rattle.std.proofs.Common.{◌≤◌, [], Some, arith, length, true}
+use Rattle.gds_lines.specs.LinesState.{IsEnd}
+use Rattle.std.specs.Prelude.{MatchBool}
+use Rattle.std.proofs.Common.{[], true}
 use Rattle.gds_cli.proofs.DueLemmas.{match_both}
 
 -- saying changes no file
@@ -121,65 +118,6 @@ pub breaks_as : (due : Reply → Contents → Type 0) (broken : Type 0) (status 
 breaks_as due broken status before after is so =
     let P : Bool → Type 0 = λ b. MatchBool b broken (Replies due status before after) in subst P (sym is) so
 
--- ---- where nothing failed
-
-ends_whole : (due : Reply → Contents → Type 0) (broken : Type 0) (status : Status)
-    (before after : Contents) → EndsAs due broken status before after
-    → (status ≡ ended.ReadFault → ⊥) → (status ≡ ended.WriteFault → ⊥) → (status ≡ ended.SayFault → ⊥)
-    → (status ≡ ended.InputFault → ⊥) → (status ≡ ended.InputTooLong → ⊥)
-    → (status ≡ ended.Memory) ⊎ Replies due status before after
-ends_whole due broken ended.Memory before after e read write say input long = inl refl
-ends_whole due broken ended.ReadFault before after e read write say input long = absurd (read refl)
-ends_whole due broken ended.WriteFault before after e read write say input long = absurd (write refl)
-ends_whole due broken ended.SayFault before after e read write say input long = absurd (say refl)
-ends_whole due broken ended.InputFault before after e read write say input long = absurd (input refl)
-ends_whole due broken ended.InputTooLong before after e read write say input long = absurd (long refl)
-ends_whole due broken other before after e read write say input long = inr e
-
--- the status says exactly whether too much of the input was taken
-abbrev pub TellsLength : Status → List ℕ → List ℕ → Type 0
-TellsLength status text rest = (status ≡ ended.InputTooLong) ↔ IsAboveLimit text rest
-
-above_none : (left rest : Option (List ℕ)) (text : List ℕ) (status : Status) → left ≡ Some text
-    → length text ≤ INPUT_LIMIT → TellsOn left rest (TellsLength status) → status ≡ ended.InputTooLong → ⊥
-above_none left rest text status given short long is =
-    let tells = TellsOn-some left rest (TellsLength status) text given long in
-    let above = tells.2.0 is in
-    omega (arith, above, short)
-
-not_long : (command : Result Command BadWords) (left rest : Option (List ℕ)) (text : List ℕ) (status : Status)
-    → MayEnd command status → IsGiven command left text → length text ≤ INPUT_LIMIT
-    → TellsOn left rest (TellsLength status) → status ≡ ended.InputTooLong → ⊥
-not_long (Ok Run) left rest text status may given short long is = above_none left rest text status given short long is
-not_long (Err bad) left rest text status may given short long is = subst (MayEnd (Err bad)) is may
-not_long (Ok Version) left rest text status may given short long is = subst (MayEnd (Ok Version)) is may
-not_long (Ok Integ) left rest text status may given short long is = subst (MayEnd (Ok Integ)) is may
-not_long (Ok (Extract stamp)) left rest text status may given short long is =
-    subst (MayEnd (Ok (Extract stamp))) is may
-not_long (Ok (Create block key value alloc ext limit)) left rest text status may given short long is =
-    subst (MayEnd (Ok (Create block key value alloc ext limit))) is may
-
-pub complete : (told now : Option Contents) (command : Result Command BadWords) (input : List ℕ) (status : Status)
-    (f g : Failures) (left rest : Option (List ℕ)) → TellsOn told now (Ends command input status)
-    → MayEnd command status → HasCause status f g → NoneRose f g → (status ≡ ended.InputFault → ⊥)
-    → IsGiven command left input → length input ≤ INPUT_LIMIT → TellsOn left rest (TellsLength status)
-    → TellsOn told now (λ before after.
-    (status ≡ ended.Memory) ⊎ Replies (Due command input before) status before after)
-complete told now command input status f g left rest ends may cause none quiet given short long =
-    TellsOn-weaker told now (Ends command input status)
-    (λ before after. (status ≡ ended.Memory) ⊎ Replies (Due command input before) status before after)
-    (λ before after e.
-    ends_whole (Due command input before) (BreaksOff command input status before after) status before after e
-    (λ is. none.read (cause.read_fault is)) (λ is. none.write (cause.write_fault is))
-    (λ is. none.say (cause.say_fault is)) quiet (not_long command left rest input status may given short long))
-    ends
-
--- ---- where no input was taken
-
+-- no input was taken
 pub all_left : (left : Option (List ℕ)) → TellsOn left left IsEnd
 all_left left = TellsOn-same left left IsEnd (λ text. ([], refl)) refl
-
-pub none_taken : (left : Option (List ℕ)) (status : Status) → (status ≡ ended.InputTooLong → ⊥)
-    → TellsOn left left (TellsLength status)
-none_taken left status short =
-    TellsOn-same left left (TellsLength status) (λ text. (λ is. absurd (short is), λ above. absurd (omega (arith, above)))) refl

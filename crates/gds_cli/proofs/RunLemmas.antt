@@ -1,9 +1,8 @@
 -- How RUN ends, and what a crash leaves of it.
-use Rattle.std.proofs.Common.{◌≡◌, ◌⊎◌, ℕ, ◌<◌, ◌++◌, List, [], length, take, Option, None, Some, Result, Ok, Err}
-use Rattle.std.proofs.Common.{⊎_elim, inl, inr, refl, sym, ap, subst, ◌∙◌, append-nil, arith, true}
-use Rattle.std.specs.Prelude.{◌↔◌, IfErr}
+use Rattle.std.proofs.Common.{◌≡◌, ℕ, ◌++◌, List, [], length, take, Option, None, Some, Result, Ok, Err}
+use Rattle.std.proofs.Common.{⊎_elim, inl, inr, refl, sym, ap, subst, ◌∙◌, true}
 use Rattle.std.specs.Option.{ForSome}
-use Rattle.host_model.specs.Failures.{Failures, NeverFell, Rose}
+use Rattle.host_model.specs.Failures.{Failures}
 use Rattle.host_model.specs.Files.{Contents, saying}
 use Rattle.host_model.specs.Told.{TellsOn}
 use Rattle.host_model.proofs.FrameLemmas.{TellsOn-some, TellsOn-then, TellsOn-weaker}
@@ -11,24 +10,22 @@ use Rattle.gds_images.specs.Chain.{chain_of}
 use Rattle.gds_images.specs.Recovered.{recovered, recovered_by}
 use Rattle.gds_law.specs.Faults.{AreFaults}
 use Rattle.gds_law.proofs.KeptLemmas.{one_fault_list}
-use Rattle.gds_lines.specs.LinesState.{IsAboveLimit}
 use Rattle.gds_opening.specs.Opening.{FindsFaults}
 use Rattle.gds_recovery.specs.Found.{FindsSame}
 use Rattle.gds_script.specs.Answer.{answer_lines}
-use Rattle.gds_run.specs.Run.{Breaks, IsBrokenRun, IsRun, LeavesPrefixes, Opens}
+use Rattle.gds_run.specs.Run.{Breaks, IsRun, LeavesPrefixes, Opens}
 use Rattle.gds_run.specs.Ending as run
 use Rattle.gds_run.specs.declared.error.RunError.{RunError}
 use Rattle.gds_run.specs.declared.error.RunError.TheVariants as error
 use Rattle.m_key.specs.Globals.{Globals}
 use Rattle.gds_cli.specs.declared.status.Status.{Status}
 use Rattle.gds_cli.specs.declared.status.Status.TheVariants as ended
-use Rattle.gds_cli.specs.Answer.{Ends, IsGiven, Leaves, RefusalDue, Reply, RunBreaksOff, RunDue, SaysFront, bad_images, unsound}
-use Rattle.gds_cli.specs.Run.{GivesStatus, IsSilent, RunEnds, SaidOrBroken, SaysWhy, status_of}
+use Rattle.gds_cli.specs.Answer.{Ends, IsGiven, Leaves, RefusalDue, Reply, RunBreaksOff, RunDue, bad_images, unsound}
+use Rattle.gds_cli.specs.Run.{GivesStatus, IsSilent, RunEnds, SaysWhy}
 use Rattle.gds_cli.specs.Saying.{Answers, SaysFrontOf}
-use Rattle.gds_cli.specs.Status.{HasCause, MayEnd, is_break}
+use Rattle.gds_cli.specs.Status.{is_break}
 use Rattle.gds_cli.proofs.DueLemmas.{goes_on, goes_untold, match_both}
-use Rattle.gds_cli.proofs.EndsLemmas.{TellsLength, breaks_as}
-use Rattle.host_model.proofs.FailureLemmas.{Rose-then, then-Rose}
+use Rattle.gds_cli.proofs.EndsLemmas.{breaks_as}
 use Rattle.gds_words.specs.declared.words.BadWords.{BadWords}
 use Rattle.gds_words.specs.declared.words.Command.{Command}
 use Rattle.gds_words.specs.declared.words.Command.TheVariants.{Run}
@@ -45,32 +42,6 @@ HasSome c reply = (faults : ℕ) × (faults ≡ 0 → ⊥) × FindsFaults faults
 none_recovered : (db images : List ℕ) (at : ℕ) → chain_of images (length db) ≡ Err at → recovered db images ≡ None
 unfolding recovered
 none_recovered db images at bad = ap (recovered_by db images) bad
-
-same_error : (a b : ℕ) → (let E : ℕ → Result (Unit {0}) ℕ = λ n. Err n in E a ≡ E b) → a ≡ b
-same_error a b same = cc
-
-bad_once : (c : Contents) (r s : Reply) → BadAt c r → BadAt c s → r ≡ s
-bad_once c r s p q = let same : p.0 ≡ q.0 = let first = p.1 in let second = q.1 in cc in
-    p.2 ∙ ap bad_images same ∙ sym q.2
-
-not_found : (c : Contents) (r s : Reply) → BadAt c r → HasSome c s → ⊥
-not_found c r s p q =
-    let none = none_recovered c.db c.images p.0 p.1 in let some = q.2.found in cc
-
-some_once : (c : Contents) (r s : Reply) → HasSome c r → HasSome c s → r ≡ s
-some_once c r s p q =
-    let found : p.2.file ≡ q.2.file = let first = p.2.found in let second = q.2.found in cc in
-    let faults = (one_fault_list q.2.file).1 p.2.has.faults q.2.has.faults
-    (subst (λ file. AreFaults file p.2.has.faults) found p.2.has.are) q.2.has.are in
-    let same : p.0 ≡ q.0 = p.2.has.counted ∙ ap length faults ∙ sym q.2.has.counted in
-    p.3 ∙ ap unsound same ∙ sym q.3
-
-pub one_refusal : (c : Contents) (r s : Reply) → RefusalDue c r → RefusalDue c s → r ≡ s
-one_refusal c r s p q =
-    ⊎_elim
-    (λ (a : BadAt c r). ⊎_elim (λ (b : BadAt c s). bad_once c r s a b) (λ (b : HasSome c s). absurd (not_found c r s a b)) q)
-    (λ (a : HasSome c r). ⊎_elim (λ (b : BadAt c s). absurd (not_found c s r b a)) (λ (b : HasSome c s). some_once c r s a b) q)
-    p
 
 -- files that open aren't refused
 pub not_refused : (c : Contents) (reply : Reply) (image : List ℕ) (m : Globals) → Opens c image m → RefusalDue c reply → ⊥
@@ -103,13 +74,7 @@ ends_run input told now ran =
 broken_ends : (input : List ℕ) (status : Status) (before after : Contents) → is_break status ≡ true
     → Breaks input before after → RunEnds input status before after
 broken_ends input status before after is breaks =
-    let broken : RunBreaksOff input before after =
-    ⊎_elim
-    (λ (same : after.said ≡ before.said).
-    inr (record { text = []; says = same ∙ sym (append-nil before.said); front = λ reply later due. (0, refl) }))
-    (λ (cut : IsBrokenRun input before after). inl cut)
-    breaks in
-    breaks_as (RunDue input before) (RunBreaksOff input before after) status before after is broken
+    breaks_as (RunDue input before) (RunBreaksOff input before after) status before after is (inl breaks)
 
 silent_ends : (input : List ℕ) (told mid now : Option Contents) (status wanted : Status) → status ≡ wanted
     → is_break wanted ≡ true → TellsOn told mid (Breaks input) → TellsOn mid now (λ before after. after ≡ before)
@@ -127,12 +92,7 @@ refused_ends : (input : List ℕ) (reply : Reply) (status : Status) (before mid 
 refused_ends input reply status before mid after due same answered =
     match_both (is_break status) _ _ _ _
     (λ (front : SaysFrontOf reply.text mid after).
-    inr (record {
-      text = take front.0 reply.text;
-      says = more_said before mid after (take front.0 reply.text) same front.1;
-      front = λ other later is.
-          (front.0, ap (λ (r : Reply). take front.0 r.text) (one_refusal before reply other due is));
-    }))
+    inr (reply, due, front.0, more_said before mid after (take front.0 reply.text) same front.1))
     (λ (whole : (status ≡ reply.status) × (after ≡ saying mid reply.text)).
     record {
       reply = reply;

@@ -15,7 +15,7 @@ use Rattle.gds_law.specs.Faults.{AreFaults}
 use Rattle.gds_sound.specs.Stands.{StandsFor}
 use Rattle.gds_opening.specs.Opening.{FindsFaults}
 use Rattle.gds_script.specs.Answer.{answer_lines}
-use Rattle.gds_run.specs.Run.{IsBrokenRun, IsRun, LeavesPrefixes}
+use Rattle.gds_run.specs.Run.{Breaks, IsRun, LeavesPrefixes}
 use Rattle.m_key.specs.Globals.{Globals}
 use Rattle.m_text.specs.Extract.{zwr}
 use Rattle.gds_cli.specs.FaultText.{fault_text}
@@ -45,10 +45,6 @@ version = record { text = line (codes "GDSPROF1"); status = ended.Done }
 -- The word at this place, counted from 0, is the first that fits no command.
 abbrev pub bad_words : ℕ → Reply
 bad_words place = record { text = line (codes "BADWORDS " ++ decimal place); status = ended.BadWords }
-
--- A unit of the database file, 0 for its header, isn't as it was: of a host that tells nothing alone.
-abbrev pub changed : ℕ → Reply
-changed unit = record { text = line (codes "CHANGED " ++ decimal unit); status = ended.Changed }
 
 -- A file without faults is as it should be.
 abbrev pub list_status : List Fault → Status
@@ -163,11 +159,13 @@ abbrev pub CreateBreaksOff : Header → Status → Contents → Contents → Typ
 CreateBreaksOff h status before after =
     SaysFront (CreateDue h before) before after × AllOrNothing h status before after
 
--- Where RUN breaks off, it answered some first lines of the input, and some first bytes of the answers were said; or it
--- said some bytes, or none, of why the files can't be opened. What the files hold is among what a crash leaves.
+-- Where RUN breaks off, nothing was said; or it answered some first lines of the input, and some first bytes of the
+-- answers were said; or it said some first bytes of why the files can't be opened. What the files hold is among what a
+-- crash leaves.
 abbrev pub RunBreaksOff : List ℕ → Contents → Contents → Type 0
 RunBreaksOff input before after =
-    IsBrokenRun input before after ⊎ SaysFront (λ reply later. RefusalDue before reply) before after
+    Breaks input before after
+    ⊎ ((reply : Reply) × RefusalDue before reply × (n : ℕ) × (after.said ≡ before.said ++ take n reply.text))
 
 -- The other commands leave both files as they are.
 abbrev pub BreaksOff : Result Command BadWords → List ℕ → Status → Contents → Contents → Type 0

@@ -1,12 +1,13 @@
 -- How RUN ends, and what it says of an error.
-use Rattle.std.specs.Prelude.{◌≡◌, ◌⊎◌, List, ℕ}
+use Rattle.std.specs.Prelude.{◌≡◌, ◌⊎◌, ◌++◌, List, ℕ, codes}
+use Rattle.std.specs.Fmt.{decimal}
 use Rattle.host_model.specs.Failures.{Failures, Rose}
 use Rattle.host_model.specs.Files.{Contents}
 use Rattle.gds_run.specs.declared.error.RunError.{RunError}
 use Rattle.gds_run.specs.declared.error.RunError.TheVariants as error
 use Rattle.gds_cli.specs.declared.status.Status.{Status}
 use Rattle.gds_cli.specs.declared.status.Status.TheVariants as ended
-use Rattle.gds_cli.specs.Answer.{EndsAs, RunBreaksOff, RunDue, bad_images, changed, unsound}
+use Rattle.gds_cli.specs.Answer.{EndsAs, Reply, RunBreaksOff, RunDue, bad_images, line, unsound}
 use Rattle.gds_cli.specs.Saying.{Answers}
 
 abbrev pub RunEnds : List ℕ → Status → Contents → Contents → Type 0
@@ -24,6 +25,10 @@ status_of error.InputTooLong = ended.InputTooLong
 status_of (error.BadImages at) = ended.BadImages
 status_of (error.Unsound faults) = ended.Unsound
 status_of (error.Changed unit) = ended.Changed
+
+-- A unit of the database file, 0 for its header, isn't as it was. It comes over hosts alone that tell nothing.
+abbrev pub changed : ℕ → Reply
+changed unit = record { text = line (codes "CHANGED " ++ decimal unit); status = ended.Changed }
 
 -- What is wrong with the files is said, and of another error nothing.
 abbrev pub SaysWhy : RunError → Status → Contents → Contents → Type 0

@@ -41,7 +41,7 @@ is_break ended.InputTooLong = true
 is_break other = false
 
 -- Which endings the words may have, whatever the device does. Only a file that is read can meet a failure of reading or
--- a change, and only one that is made a failure of writing; only a text that is put together wants memory.
+-- a change, and only one that is written a failure of writing; only a text that is put together wants memory.
 abbrev pub MayEnd : Result Command BadWords → Status → Type 0
 MayEnd command ended.SayFault = Unit {0}
 MayEnd (Err bad) ended.BadWords = Unit {0}

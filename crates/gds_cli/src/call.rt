@@ -65,7 +65,12 @@ pub fn gds<H: Host, I: Source>(alloc: Global, words: &[String], host: H, input: 
     ensures one_call { TouchesNoFile (command_in words.now) → result.status ≢ Status.Memory
         → H.moment result.host ≡ counted (H.moment host) }
 {
-    answer(alloc, read_words(words), host, input)
+    let (status, host, input) = answer(alloc, read_words(words), host, input);
+    Ended {
+        status,
+        host,
+        input,
+    }
 }
 
 /// Does what a command asks for, and says the answer.
@@ -74,53 +79,41 @@ fn answer<H: Host, I: Source>(
     command: Result<Command, BadWords>,
     host: H,
     input: I,
-) -> Ended<H, I>
+) -> (Status, H, I)
     requires { IfOk command MakesHeader }
     ensures host { (text : List ℕ) → IsGiven command (I.left input) text
-        → TellsOn (H.told host) (H.told result.host) (Ends command text result.status) }
+        → TellsOn (H.told host) (H.told result.1) (Ends command text result.0) }
     ensures crash { (text : List ℕ) → IsGiven command (I.left input) text → ForSome (H.told host)
-        (λ before. Leaves H.moment H.left_since command text host result.host before) }
-    ensures one_map { command ≡ Ok Command.Integ → result.status ≡ Status.Done
+        (λ before. Leaves H.moment H.left_since command text host result.1 before) }
+    ensures one_map { command ≡ Ok Command.Integ → result.0 ≡ Status.Done
         → ForSome (H.told host) (λ c. HasOneMap c.db) }
-    ensures unread { command ≡ Ok Command.Integ → result.status ≡ Status.ReadFault
-        → H.told result.host ≡ H.told host }
-    ensures status { MayEnd command result.status }
-    ensures cause { HasCause result.status (H.failures host) (H.failures result.host) }
-    ensures failures { NeverFell (H.failures host) (H.failures result.host) }
-    ensures input_cause { result.status ≡ Status.InputFault → Rose (I.failures input) (I.failures result.input) }
-    ensures too_long { TellsOn (I.left input) (I.left result.input)
-        (λ text rest. (result.status ≡ Status.InputTooLong) ↔ IsAboveLimit text rest) }
-    ensures input { command ≢ Ok Command.Run → result.input ≡ input }
-    ensures rest { TellsOn (I.left input) (I.left result.input) IsEnd }
-    ensures one_call { TouchesNoFile command → result.status ≢ Status.Memory
-        → H.moment result.host ≡ counted (H.moment host) }
+    ensures unread { command ≡ Ok Command.Integ → result.0 ≡ Status.ReadFault
+        → H.told result.1 ≡ H.told host }
+    ensures status { MayEnd command result.0 }
+    ensures cause { HasCause result.0 (H.failures host) (H.failures result.1) }
+    ensures failures { NeverFell (H.failures host) (H.failures result.1) }
+    ensures input_cause { result.0 ≡ Status.InputFault → Rose (I.failures input) (I.failures result.2) }
+    ensures too_long { TellsOn (I.left input) (I.left result.2)
+        (λ text rest. (result.0 ≡ Status.InputTooLong) ↔ IsAboveLimit text rest) }
+    ensures input { command ≢ Ok Command.Run → result.2 ≡ input }
+    ensures rest { TellsOn (I.left input) (I.left result.2) IsEnd }
+    ensures one_call { TouchesNoFile command → result.0 ≢ Status.Memory
+        → H.moment result.1 ≡ counted (H.moment host) }
 {
     let mut host = host;
     match command {
         Ok(Command::Run) => run(alloc, host, input),
         Ok(Command::Version) => {
             let status = say(&mut host, "GDSPROF1\n", Status::Done);
-            Ended {
-                status,
-                host,
-                input,
-            }
+            (status, host, input)
         }
         Ok(Command::Integ) => {
             let (status, host) = tell_faults(alloc, host);
-            Ended {
-                status,
-                host,
-                input,
-            }
+            (status, host, input)
         }
         Ok(Command::Extract { stamp }) => {
             let status = extract(alloc, &mut host, &stamp);
-            Ended {
-                status,
-                host,
-                input,
-            }
+            (status, host, input)
         }
         Ok(
             Command::Create {
@@ -134,19 +127,11 @@ fn answer<H: Host, I: Source>(
         ) => {
             let header = header_with(block, key, value, total, ext, limit);
             let status = create(alloc, &mut host, &header);
-            Ended {
-                status,
-                host,
-                input,
-            }
+            (status, host, input)
         }
         Err(BadWords { place }) => {
             let status = say_number(alloc, &mut host, "BADWORDS", place as u64, Status::BadWords);
-            Ended {
-                status,
-                host,
-                input,
-            }
+            (status, host, input)
         }
     }
 }

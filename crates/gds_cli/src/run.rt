@@ -9,7 +9,6 @@ ghost use Rattle.gds_words.specs.declared.words.Command.TheVariants.{Run};
 ghost use Rattle.gds_cli.specs.Status.{HasCause, MayEnd};
 ghost use Rattle.gds_cli.specs.Run.{GivesStatus, IsSilent, RunEnds, SaysWhy};
 
-use crate::call::Ended;
 use crate::saying::say_number;
 use crate::status::Status;
 use gds_run::{Ran, RunError};
@@ -17,18 +16,18 @@ use host_model::{Host, Source};
 use std::alloc::Global;
 
 /// Opens the database and answers the lines of the input. Where it can't be opened it says why.
-pub(crate) fn run<H: Host, I: Source>(alloc: Global, host: H, input: I) -> Ended<H, I>
+pub(crate) fn run<H: Host, I: Source>(alloc: Global, host: H, input: I) -> (Status, H, I)
     ensures host { (text : List ℕ) → I.left input ≡ Some text
-        → TellsOn (H.told host) (H.told result.host) (RunEnds text result.status) }
+        → TellsOn (H.told host) (H.told result.1) (RunEnds text result.0) }
     ensures crash { (text : List ℕ) → I.left input ≡ Some text → ForSome (H.told host)
-        (λ before. LeavesPrefixes H.moment H.left_since text before host result.host) }
-    ensures status { MayEnd (Ok Run) result.status }
-    ensures cause { HasCause result.status (H.failures host) (H.failures result.host) }
-    ensures input_cause { result.status ≡ Status.InputFault → Rose (I.failures input) (I.failures result.input) }
-    ensures too_long { TellsOn (I.left input) (I.left result.input)
-        (λ text rest. (result.status ≡ Status.InputTooLong) ↔ IsAboveLimit text rest) }
-    ensures rest { TellsOn (I.left input) (I.left result.input) IsEnd }
-    ensures failures { NeverFell (H.failures host) (H.failures result.host) }
+        (λ before. LeavesPrefixes H.moment H.left_since text before host result.1) }
+    ensures status { MayEnd (Ok Run) result.0 }
+    ensures cause { HasCause result.0 (H.failures host) (H.failures result.1) }
+    ensures input_cause { result.0 ≡ Status.InputFault → Rose (I.failures input) (I.failures result.2) }
+    ensures too_long { TellsOn (I.left input) (I.left result.2)
+        (λ text rest. (result.0 ≡ Status.InputTooLong) ↔ IsAboveLimit text rest) }
+    ensures rest { TellsOn (I.left input) (I.left result.2) IsEnd }
+    ensures failures { NeverFell (H.failures host) (H.failures result.1) }
 {
     let Ran {
         result,
@@ -37,18 +36,10 @@ pub(crate) fn run<H: Host, I: Source>(alloc: Global, host: H, input: I) -> Ended
     } = gds_run::run(alloc, host, input);
     let mut host = host;
     match result {
-        Ok(()) => Ended {
-            status: Status::Done,
-            host,
-            input,
-        },
+        Ok(()) => (Status::Done, host, input),
         Err(error) => {
             let status = say_why(alloc, &mut host, error);
-            Ended {
-                status,
-                host,
-                input,
-            }
+            (status, host, input)
         }
     }
 }

@@ -1,4 +1,4 @@
-use Rattle.std.proofs.Common.{◌≡◌, Ok, Err, refl}
+use Rattle.std.proofs.Common.{◌≡◌, Ok, Err}
 use Rattle.gds_cli.specs.Answer.{bad_words, version}
 use Rattle.gds_words.specs.declared.words.Command.TheVariants.{Version}
 use Rattle.gds_cli.proofs.DueLemmas.{goes_reply}
@@ -8,7 +8,7 @@ use Rattle.gds_cli.proofs.call.answer.Goals as goal
 
 pub returns-in-Ok-Run-clause-host : goal.returns-in-Ok-Run-clause-host
 returns-in-Ok-Run-clause-host g c text given =
-    run_ends c.args.command (cc) (g.I.Source.left c.args.input) text given _ _ c.run.result.status c.run.ensures.host
+    run_ends c.args.command (cc) (g.I.Source.left c.args.input) text given _ _ c.run.result.0 c.run.ensures.host
 
 pub returns-in-Ok-Run-clause-crash : goal.returns-in-Ok-Run-clause-crash
 returns-in-Ok-Run-clause-crash g c text given =
