@@ -19,19 +19,35 @@ fn error_of(call: &Call) -> RunError {
     }
 }
 
+/// The calls of a run in which none fails.
+fn calls_of(alloc: Global, new: &MemHost) -> Result<Vec<Call>, AllocError> {
+    let ran = run_text(alloc, copy_of(alloc, new, &[])?, SCRIPT)?;
+    ran.host.calls().to_vec(alloc)
+}
+
+/// How a script ends in whose run the call with this number fails, and what it says.
+fn ending_at(
+    alloc: Global,
+    new: &MemHost,
+    script: &[u8],
+    number: u64,
+) -> Result<(Result<(), RunError>, Vec<u8>), AllocError> {
+    let ran = run_text(alloc, copy_of(alloc, new, &[number])?, script)?;
+    Ok((ran.result, ran.host.parts().2.to_vec(alloc)?))
+}
+
 #[test]
 fn a_run_ends_with_the_failure(rt: HostRuntime) -> Result<(), Fail> {
     let alloc = rt.alloc();
     let new = new_database(alloc, &HUNDRED)?;
-    let whole = run_text(alloc, copy_of(alloc, &new, &[])?, SCRIPT)?;
-    assert_eq!(rt; whole.host.parts().2, SAID);
-    for (number, call) in (1..).zip(whole.host.calls()) {
-        let host = copy_of(alloc, &new, &[number])?;
-        let ran = run_text(alloc, host, SCRIPT)?;
-        assert_eq!(rt; ran.result, Err(error_of(call)), "{call:?}");
-        assert_eq!(rt; SAID.starts_with(ran.host.parts().2), true, "{call:?}");
-        assert_eq!(rt; ran.host.starved(), 0, "{call:?}");
+    for (number, call) in (1..).zip(&calls_of(alloc, &new)?) {
+        let (result, said) = ending_at(alloc, &new, SCRIPT, number)?;
+        assert_eq!(rt; result, Err(error_of(call)), "{call:?}");
+        assert_eq!(rt; SAID.starts_with(&said), true, "{call:?}");
     }
+    let (result, said) = ending_at(alloc, &new, SCRIPT, 0)?;
+    assert_eq!(rt; result, Ok(()));
+    assert_eq!(rt; said.as_slice(), SAID);
     Ok(())
 }
 
@@ -63,8 +79,7 @@ fn ending(
     failing: Failing,
 ) -> Result<(Result<(), RunError>, Vec<u8>), AllocError> {
     let number = failing_number(alloc, new, script, failing)?;
-    let ran = run_text(alloc, copy_of(alloc, new, &[number])?, script)?;
-    Ok((ran.result, ran.host.parts().2.to_vec(alloc)?))
+    ending_at(alloc, new, script, number)
 }
 
 /// The number of the call in a run of the script in which none fails.
