@@ -3,6 +3,7 @@
 use crate::files::{HUNDRED, copy_of, new_database, run_text};
 use gds_run::RunError;
 use host_mem::{Call, MemHost};
+use std::alloc::{AllocError, Global};
 use std::test::Fail;
 
 const SCRIPT: &[u8] = b"GET ^B\nSET ^A=1\nGET ^A\nEPOCH\nGET ^A\nSET ^B=2\nGET ^B\n";
@@ -18,19 +19,35 @@ fn error_of(call: &Call) -> RunError {
     }
 }
 
+/// The calls of a run in which none fails.
+fn calls_of(alloc: Global, new: &MemHost) -> Result<Vec<Call>, AllocError> {
+    let ran = run_text(alloc, copy_of(alloc, new, &[])?, SCRIPT)?;
+    ran.host.calls().to_vec(alloc)
+}
+
+/// How a script ends in whose run the call with this number fails, and what it says.
+fn ending_at(
+    alloc: Global,
+    new: &MemHost,
+    script: &[u8],
+    number: u64,
+) -> Result<(Result<(), RunError>, Vec<u8>), AllocError> {
+    let ran = run_text(alloc, copy_of(alloc, new, &[number])?, script)?;
+    Ok((ran.result, ran.host.parts().2.to_vec(alloc)?))
+}
+
 #[test]
 fn a_run_ends_with_the_failure(rt: HostRuntime) -> Result<(), Fail> {
     let alloc = rt.alloc();
     let new = new_database(alloc, &HUNDRED)?;
-    let whole = run_text(alloc, copy_of(alloc, &new, &[])?, SCRIPT)?;
-    assert_eq!(rt; whole.host.parts().2, SAID);
-    for (number, call) in (1..).zip(whole.host.calls()) {
-        let host = copy_of(alloc, &new, &[number])?;
-        let ran = run_text(alloc, host, SCRIPT)?;
-        assert_eq!(rt; ran.result, Err(error_of(call)), "{call:?}");
-        assert_eq!(rt; SAID.starts_with(ran.host.parts().2), true, "{call:?}");
-        assert_eq!(rt; ran.host.starved(), 0, "{call:?}");
+    for (number, call) in (1..).zip(&calls_of(alloc, &new)?) {
+        let (result, said) = ending_at(alloc, &new, SCRIPT, number)?;
+        assert_eq!(rt; result, Err(error_of(call)), "{call:?}");
+        assert_eq!(rt; SAID.starts_with(&said), true, "{call:?}");
     }
+    let (result, said) = ending_at(alloc, &new, SCRIPT, 0)?;
+    assert_eq!(rt; result, Ok(()));
+    assert_eq!(rt; said.as_slice(), SAID);
     Ok(())
 }
 
@@ -54,32 +71,51 @@ fn number_of(host: &MemHost, failing: Failing) -> u64 {
     found
 }
 
-/// The last read is that of the last GET, and the first write that of the epoch.
+/// How a run ends in which this call fails, and what it says.
+fn ending(
+    alloc: Global,
+    new: &MemHost,
+    script: &[u8],
+    failing: Failing,
+) -> Result<(Result<(), RunError>, Vec<u8>), AllocError> {
+    let number = failing_number(alloc, new, script, failing)?;
+    ending_at(alloc, new, script, number)
+}
+
+/// The number of the call in a run of the script in which none fails.
+fn failing_number(
+    alloc: Global,
+    new: &MemHost,
+    script: &[u8],
+    failing: Failing,
+) -> Result<u64, AllocError> {
+    let ran = run_text(alloc, copy_of(alloc, new, &[])?, script)?;
+    Ok(number_of(&ran.host, failing))
+}
+
+/// The last read is that of the last GET.
 #[test]
-fn answers_that_wait_are_said(rt: HostRuntime) -> Result<(), Fail> {
+fn answers_that_wait_are_said_where_a_read_fails(rt: HostRuntime) -> Result<(), Fail> {
     let alloc = rt.alloc();
     let new = new_database(alloc, &HUNDRED)?;
-    for (label, script, failing, error, said) in [
-        (
-            "a read fails",
-            &b"GET ^B\nSET ^A=1\nGET ^A\nGET ^B\nGET ^A"[..],
-            Failing::LastRead,
-            RunError::ReadFault,
-            &b"UNDEF\nOK\nVALUE \"1\"\nUNDEF\n"[..],
-        ),
-        (
-            "a write fails",
-            b"GET ^B\nSET ^A=1\nGET ^A\nEPOCH\nGET ^A",
-            Failing::FirstWrite,
-            RunError::WriteFault,
-            b"UNDEF\nOK\nVALUE \"1\"\n",
-        ),
-    ] {
-        let whole = run_text(alloc, copy_of(alloc, &new, &[])?, script)?;
-        let number = number_of(&whole.host, failing);
-        let ran = run_text(alloc, copy_of(alloc, &new, &[number])?, script)?;
-        assert_eq!(rt; ran.result, Err(error), "{label}");
-        assert_eq!(rt; ran.host.parts().2, said, "{label}");
-    }
+    let script = b"GET ^B\nSET ^A=1\nGET ^A\nGET ^B\nGET ^A";
+    let (result, said) = ending(alloc, &new, script, Failing::LastRead)?;
+    assert_eq!(rt; result, Err(RunError::ReadFault));
+    assert_eq!(rt;
+        said.as_slice(),
+        b"UNDEF\nOK\nVALUE \"1\"\nUNDEF\n".as_slice()
+    );
+    Ok(())
+}
+
+/// The first write is that of the epoch.
+#[test]
+fn answers_that_wait_are_said_where_a_write_fails(rt: HostRuntime) -> Result<(), Fail> {
+    let alloc = rt.alloc();
+    let new = new_database(alloc, &HUNDRED)?;
+    let script = b"GET ^B\nSET ^A=1\nGET ^A\nEPOCH\nGET ^A";
+    let (result, said) = ending(alloc, &new, script, Failing::FirstWrite)?;
+    assert_eq!(rt; result, Err(RunError::WriteFault));
+    assert_eq!(rt; said.as_slice(), b"UNDEF\nOK\nVALUE \"1\"\n".as_slice());
     Ok(())
 }
