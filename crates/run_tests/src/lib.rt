@@ -1,0 +1,9 @@
+//! Runs of scripts over hosts in memory.
+#![tactic(auto)]
+
+#[cfg(test)]
+mod answers;
+#[cfg(test)]
+mod blocks;
+#[cfg(test)]
+mod files;
