@@ -6,4 +6,10 @@ mod answers;
 #[cfg(test)]
 mod blocks;
 #[cfg(test)]
+mod failures;
+#[cfg(test)]
 mod files;
+#[cfg(test)]
+mod inputs;
+#[cfg(test)]
+mod refusals;
