@@ -6,6 +6,7 @@ the same time, or an input that is written while answers are read.
 """
 
 import os
+import random
 import shutil
 import subprocess
 import tempfile
@@ -14,6 +15,7 @@ from collections.abc import Callable
 from dataclasses import dataclass
 from pathlib import Path
 
+import scripts
 from files import CLOSED, HEADER, bitmap, block, changed, header, place, pointer
 
 # the user that runs a call which root would pass, since root writes every file
@@ -113,6 +115,8 @@ PIECES = [
     bytes.fromhex("01000000c60300000300000000000000 b6030000 4100bf210000"),
     bytes.fromhex("01000000fa0100000300000000000000 ea010000 4100bf310000"),
 ]
+# the directory's leaf once its last name has gone, by the fourth transaction
+NO_ENTRIES = bytes.fromhex("01000000100000000400000000000000")
 FULL = ["SET ^%c=1" % letter for letter in b"ABCDEFGHIJKLMNOP"]
 
 STORIES = {
@@ -160,11 +164,12 @@ STORIES = {
     "lines outside the grammar": [
         MADE,
         run(
-            ['SET ^A("")="x"', "", "set ^A=1", "GET ^A", "QUIT"],
+            ['SET ^A("")="x"', "", "set ^A=1", "GET ^A", 'ORDER ^A("")', "QUIT"],
             "BADLINE",
             "BADLINE",
             "BADLINE",
             "UNDEF",
+            "END",
             "BADLINE",
             "EPOCH 0",
         ),
@@ -204,6 +209,83 @@ STORIES = {
         Step(["CREATE", "-ALLOC=64", "-LIMIT=64"], said("CREATED 64")),
         run(FULL, *["OK"] * 15, "FULL 31", "EPOCH 15"),
         run(["SET ^A=2", "GET ^A"], "FULL 31", 'VALUE "1"', "EPOCH 0"),
+        SOUND,
+    ],
+    "a KILL makes room": [
+        Step(["CREATE", "-ALLOC=64", "-LIMIT=64"], said("CREATED 64")),
+        run([*FULL, "KILL ^A", FULL[-1]], *["OK"] * 15, "FULL 31", "OK", "OK", "EPOCH 17"),
+        SOUND,
+    ],
+    "questions and a KILL of a global": [
+        MADE,
+        run(
+            [
+                'SET ^A="1"',
+                'SET ^A(1)="2"',
+                'SET ^A(1,2)="3"',
+                'SET ^AB="4"',
+                "DATA ^A(1)",
+                "ORDER ^A",
+                "QUERY ^A",
+                "KILL ^A",
+                "DATA ^A",
+                "GET ^AB",
+                "KILL ^A",
+            ],
+            *["OK"] * 4,
+            "DATA 11",
+            "NEXT ^AB",
+            "NODE ^A(1)",
+            "OK",
+            "DATA 0",
+            'VALUE "4"',
+            "OK",
+            "EPOCH 6",
+        ),
+        SOUND,
+        Step(["EXTRACT", "-STAMP=x"], said("GT.M MUPIP EXTRACT", "x ZWR", '^AB="4"')),
+    ],
+    "nodes go one after another": [
+        MADE,
+        run(
+            [
+                'SET ^A(1)="x"',
+                'SET ^A(2)="y"',
+                "KILL ^A(1)",
+                'ORDER ^A("")',
+                "ORDER ^A(2)",
+                "QUERY ^A",
+                "KILL ^A",
+                "ORDER ^%",
+            ],
+            "OK",
+            "OK",
+            "OK",
+            "NEXT 2",
+            "END",
+            "NODE ^A(2)",
+            "OK",
+            "END",
+            "EPOCH 4",
+            check=has_block(NO_ENTRIES),
+        ),
+        SOUND,
+        run(["DATA ^A", "SET ^A=1", "DATA ^A"], "DATA 0", "OK", "DATA 1", "EPOCH 1"),
+        SOUND,
+    ],
+    "questions about keys that are too long": [
+        MADE,
+        run(
+            ['%s ^A("%s")' % (verb, "q" * 60) for verb in ("KILL", "GET", "ORDER", "DATA", "QUERY")]
+            + ['ORDER ^A("%s","")' % ("q" * 60), 'ORDER ^A("%s")' % ("q" * 59)],
+            *["KEYTOOLONG 65"] * 6,
+            "END",
+            "EPOCH 0",
+        ),
+    ],
+    "a KILL of nothing takes no transaction number": [
+        Step(CREATE, said("CREATED 100"), check=put("db", 40, (2**63 - 1).to_bytes(8, "little"))),
+        run(["KILL ^A", "SET ^A(1)=1", "KILL ^B", "KILL ^A", "DATA ^A"], "OK", "OK", "OK", "TNSPENT", "DATA 10", "EPOCH 3"),
         SOUND,
     ],
     "a file grows": [
@@ -376,7 +458,13 @@ def a_file_that_may_only_be_read(program, folder):
         return wrong_with_story(Path(shutil.copy(program, elsewhere)), folder, steps, NOBODY)
 
 
+def random_scripts_are_answered_as_by_a_map(program, folder):
+    """Some thousand lines on small blocks; tests/random_scripts has more."""
+    return scripts.wrong_with_scripts(program, folder, random.Random(17), 6, 1000)
+
+
 SCENES = {
+    "random scripts": random_scripts_are_answered_as_by_a_map,
     "answers come at once": answers_come_at_once,
     "pieces do not matter": pieces_do_not_matter,
     "one program at a time": one_program_at_a_time,
