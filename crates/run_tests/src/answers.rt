@@ -17,10 +17,10 @@ const LONGEST: usize = 1_048_576;
 
 /// A script on a database, and what is said.
 #[derive(Clone, Copy)]
-struct Row<'a> {
-    label: &'a str,
-    script: &'a [u8],
-    said: &'a [u8],
+pub(crate) struct Row<'a> {
+    pub(crate) label: &'a str,
+    pub(crate) script: &'a [u8],
+    pub(crate) said: &'a [u8],
 }
 
 /// Runs the row on this database. Answers the host, which has said the answers.
@@ -38,7 +38,7 @@ fn assert_said(
 }
 
 /// The same on a new database with these numbers.
-fn assert_first(
+pub(crate) fn assert_first(
     rt: &(impl Abort + AllocGlobal),
     numbers: &Header,
     row: Row,
@@ -79,8 +79,8 @@ fn lines_have_their_answers(rt: HostRuntime) -> Result<(), Fail> {
         ),
         (
             "lines outside the grammar",
-            b"SET ^A(\"\")=\"x\"\n\nset ^A=1\nSET ^A\nEPOCH \n GET ^A\nGET\nGET ^A ^A\nGET ^A\n",
-            b"BADLINE\nBADLINE\nBADLINE\nBADLINE\nBADLINE\nBADLINE\nBADLINE\nBADLINE\nUNDEF\nEPOCH 0\n",
+            b"SET ^A(\"\")=\"x\"\n\nset ^A=1\nSET ^A\nEPOCH \n GET ^A\nGET\nGET ^A ^A\nGET ^A\nORDER ^A(\"\")\n",
+            b"BADLINE\nBADLINE\nBADLINE\nBADLINE\nBADLINE\nBADLINE\nBADLINE\nBADLINE\nUNDEF\nEND\nEPOCH 0\n",
         ),
         (
             "line ends of two bytes, and a last line without one",

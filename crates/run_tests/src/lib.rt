@@ -12,4 +12,6 @@ mod files;
 #[cfg(test)]
 mod inputs;
 #[cfg(test)]
+mod kills;
+#[cfg(test)]
 mod refusals;

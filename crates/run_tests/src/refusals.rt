@@ -103,14 +103,15 @@ fn transaction_numbers_are_spent(rt: HostRuntime) -> Result<(), Fail> {
         (
             "the last but one",
             (1 << 63) - 1,
-            &b"OK\nTNSPENT\nVALUE \"1\"\nEPOCH 1\n"[..],
+            &b"OK\nTNSPENT\nVALUE \"1\"\nOK\nTNSPENT\nEPOCH 2\n"[..],
         ),
-        ("the last", 1 << 63, b"TNSPENT\nTNSPENT\nUNDEF\nEPOCH 0\n"),
+        ("the last", 1 << 63, b"TNSPENT\nTNSPENT\nUNDEF\nOK\nOK\nEPOCH 2\n"),
     ] {
         let number: u64 = number;
         let db = changed(alloc, new.parts().0, NUMBER, &number.to_le_bytes())?;
         let host = host_of(alloc, &db, CLOSED, &[])?;
-        let ran = run_text(alloc, host, b"SET ^A=1\nSET ^A=2\nGET ^A\n")?;
+        let script = b"SET ^A=1\nSET ^A=2\nGET ^A\nKILL ^B\nKILL ^A\n";
+        let ran = run_text(alloc, host, script)?;
         assert_eq!(rt; ran.result, Ok(()), "{label}");
         assert_eq!(rt; ran.host.parts().2, said, "{label}");
     }
