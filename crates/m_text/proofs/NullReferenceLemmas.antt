@@ -108,11 +108,10 @@ pub null_behind : (text behind name rest : List ℕ) (node : Node) → text ≡ 
 null_behind text behind name rest node e n size h =
     let l = null_list text node h in
     let other : behind ≡ node.name ++ 40 ∷ l.inside =
-    tail_of 94 94 behind (node.name ++ 40 ∷ l.inside) (sym e ∙ l.written) in
-    (
+    tail_of 94 94 behind (node.name ++ 40 ∷ l.inside) (sym e ∙ l.written) in (
       l.inside,
       same_front name node.name rest (40 ∷ l.inside) (size
-      ∙ name_ended node.name behind l.inside h.is_node.name other) (sym n ∙ other),
+          ∙ name_ended node.name behind l.inside h.is_node.name other) (sym n ∙ other),
       l.stand,
     )
 

@@ -265,8 +265,7 @@ one_list_text one text n m ss ts h k p q x y =
     sym (name_ended n (n ++ 40 ∷ x.inside) x.inside h refl) ∙ name_ended m (n ++ 40 ∷ x.inside) y.inside k whole in
     let rest : x.inside ≡ y.inside =
     tail_of 40 40 x.inside y.inside (same_front n m (40 ∷ x.inside) (40 ∷ y.inside) size whole) in
-    let mine : ListStandsAt y.inside ss [] = subst (λ (t : List ℕ). ListStandsAt t ss []) rest x.stand in
-    (
+    let mine : ListStandsAt y.inside ss [] = subst (λ (t : List ℕ). ListStandsAt t ss []) rest x.stand in (
       same_name n m (40 ∷ x.inside) (40 ∷ y.inside) size whole,
       one_list one y.inside ss ts [] [] p q mine y.stand,
     )

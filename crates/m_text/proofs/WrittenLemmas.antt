@@ -1,5 +1,5 @@
 -- What is written stands for the value.
-use Rattle.std.proofs.Common.{◌≡◌, ℕ, zero, suc, ◌+◌, ◌/◌, ◌%◌, ◌<◌, Bool, true, false, ◌&&◌, ltb, List, [], ◌∷◌, ◌++◌}
+use Rattle.std.proofs.Common.{◌≡◌, ℕ, ◌+◌, ◌/◌, ◌%◌, ◌<◌, Bool, true, false, ◌&&◌, ltb, List, [], ◌∷◌, ◌++◌}
 use Rattle.std.proofs.Common.{length, map, flat_map, refl, sym, ap, ◌∙◌, subst, arith, ⊎_elim, codes}
 use Rattle.std.specs.List.{All, AllByRecursion}
 use Rattle.std.specs.Char.{is_ascii_digit}

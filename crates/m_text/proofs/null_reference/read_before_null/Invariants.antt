@@ -1,4 +1,4 @@
-use Rattle.std.proofs.Common.{◌≡◌, ◌<◌, ◌++◌, ◌∷◌, [], List, ℕ, length, map, vec_len}
+use Rattle.std.proofs.Common.{◌≡◌, ◌<◌, ◌++◌, ◌∷◌, [], List, length, map, vec_len}
 use Rattle.std.specs.List.{AllByRecursion}
 use Rattle.m_key.specs.Node.{NodeSubscript, IsSubscript}
 use Rattle.m_key.specs.Reference.{node_subscript_of}

@@ -1,9 +1,8 @@
 use Rattle.std.proofs.Common.{◌≡◌, ◌<◌, ◌++◌, ◌∷◌, [], List, ℕ, length, map, sym, ap, ◌∙◌, subst, arith}
 use Rattle.std.proofs.lemmas.Bool.{false≢true}
 use Rattle.std.proofs.lemmas.List.{length-map}
-use Rattle.std.proofs.lemmas.List.Elements.{recursion_from_All}
-use Rattle.m_key.specs.Node.{NodeSubscript, IsSubscript}
-use Rattle.m_key.specs.Reference.{node_subscript_of, node_of, is_node, name_bytes, subscript_list}
+use Rattle.m_key.specs.Node.{NodeSubscript}
+use Rattle.m_key.specs.Reference.{node_subscript_of, node_of, is_node, name_bytes}
 use Rattle.m_key.specs.declared.reference.Reference.{Reference}
 use Rattle.m_text.specs.Front.{leads}
 use Rattle.m_text.specs.FrontSubscripts.{null, ListStandsAt}
