@@ -1,7 +1,7 @@
 -- The verb of a line, and what stands behind it.
 use Rattle.std.proofs.Common.{◌≡◌, ℕ, Bool, true, false, List, [], ◌∷◌, ◌++◌, drop, refl, sym, ap, ◌∙◌, subst}
 use Rattle.std.proofs.Common.{codes, inl, inr, ◌⊎◌, ⊎_elim}
-use Rattle.std.specs.Prelude.{◌==◌, if◌then◌else◌}
+use Rattle.std.specs.Prelude.{◌==◌, if◌then◌else◌, Option, Some, None, is_some, IfNone}
 use Rattle.std.proofs.lemmas.Bool.{false≢true}
 use Rattle.m_key.specs.Node.{Node}
 use Rattle.m_text.specs.Grammar.{IsReferenceText, IsNullReferenceText}
@@ -167,6 +167,14 @@ pub none_of : (verb v : Verb) (text : List ℕ) → verb ≡ v
 none_of verb v text is none =
     subst (λ (w : Verb). (request : Request) → IsForm (verb_text w ++ text) request → ⊥) (sym is)
     (none_behind v text none)
+
+-- what follows from none, where both are none or neither is
+pub none_alike : {A B P Q : Type 0} (o : Option A) (r : Option B) → is_some r ≡ is_some o → (P → Q) → IfNone o P
+    → IfNone r Q
+none_alike None None e f h = f h
+none_alike None (Some y) e f h = absurd (false≢true (sym e))
+none_alike (Some x) None e f h = absurd (false≢true e)
+none_alike (Some x) (Some y) e f h = tt
 
 pub none_ordered : (text : List ℕ) → ((node : Node) → IsReferenceText text node → ⊥)
     → ((node : Node) → IsNullReferenceText text node → ⊥) → (node : Node) (value : List ℕ) (first : Bool)
