@@ -5,3 +5,8 @@ mod TrailLemmas
 mod SideLemmas
 mod FoundLemmas
 mod ValueLemmas
+mod RecordLemmas
+mod StartLemmas
+mod ForkLemmas
+pub mod BranchLemmas
+mod NextLemmas
