@@ -3,6 +3,7 @@
 
 mod asking;
 mod committing;
+mod killing;
 mod laws;
 mod planting;
 mod ready;
@@ -10,6 +11,7 @@ mod setting;
 
 pub use asking::get;
 pub use committing::set;
+pub use killing::kill;
 pub use laws::item_of_global;
 pub use ready::draft_set;
 pub use setting::set_in_draft;
