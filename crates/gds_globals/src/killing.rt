@@ -1,10 +1,13 @@
-ghost use Rattle.std.specs.Prelude.{◌≡◌, Err, None, OnErr, OnOk, length};
+ghost use Rattle.std.specs.Prelude.{◌≡◌, Err, IfNone, IfOk, IfSome, None, OnErr, OnOk, length};
 ghost use Rattle.std.specs.Option.{ForSome};
 ghost use Rattle.host_model.specs.Failures.{NeverFell};
 ghost use Rattle.host_model.specs.Told.{TellsOn};
+ghost use Rattle.gds_base.specs.Drafting.{IsDraftFor};
 ghost use Rattle.gds_base.specs.declared.error.BaseError.TheVariants.{TnSpent};
 ghost use Rattle.gds_globals.specs.Ending.{OnRefusal};
-ghost use Rattle.gds_globals.specs.Kill.{EndsKilling, IsSomethingThere, IsAfterKill};
+ghost use Rattle.gds_globals.specs.Kill.{EndsDraftingKill, EndsKilling, IsAfterKill, IsNothingThere};
+ghost use Rattle.gds_globals.specs.Kill.{IsSomethingThere};
+ghost use Rattle.gds_globals.specs.Killing.{IsReadyKill};
 ghost use Rattle.gds_units.specs.Durable.{KeepsOrStores, KeptAllOrStored};
 ghost use Rattle.gds_units.specs.Reading.{OnlyRead};
 ghost use Rattle.gds_units.specs.State.{WhereTold, image_of};
@@ -12,7 +15,10 @@ ghost use Rattle.m_key.specs.Key.{key_bytes};
 ghost use Rattle.m_key.specs.Reference.{node_of, place_of};
 
 use crate::asking::short_key;
+use crate::ready::LAST_NUMBER;
+use crate::taking::{kill_in_draft, root_within};
 use gds_base::{Base, BaseError};
+use gds_draft::Draft;
 use host_model::Host;
 use m_key::Reference;
 use std::alloc::Global;
@@ -44,6 +50,45 @@ pub fn kill<H: Host>(
         (image_of base.old ≡ None) (H.failures base.old.host) (H.failures base.new.host) base.old base.new result }
     ensures failures { NeverFell (H.failures base.old.host) (H.failures base.new.host) }
 {
-    let _key = short_key(base.header(), reference)?;
-    Err(BaseError::Memory)
+    let _limits = base.header();
+    base.hold_told();
+    let Some(draft) = draft_kill(alloc, base, reference)? else {
+        return Ok(());
+    };
+    base.hold_draft(&draft);
+    base.commit(alloc, draft)
+}
+
+/// Makes a KILL ready: the draft with which a commit makes the image that of the map after the KILL, or `None` where
+/// neither the node nor a descendant has a value.
+///
+/// Nothing is changed yet. `KeyTooLong` comes before all else, and `TnSpent` only where there is something to take.
+pub fn draft_kill<H: Host>(
+    alloc: Global,
+    base: &mut Base<H>,
+    reference: &Reference,
+) -> Result<Option<Draft>, BaseError>
+    ensures draft { IfOk result (λ draft. IfSome draft (IsDraftFor base.new.header)) }
+    ensures ready { IfOk result (λ draft. IfSome draft
+        (IsReadyKill (image_of base.old) base.old.header (place_of reference.now))) }
+    ensures nothing { IfOk result (λ draft. IfNone draft
+        (ForSome (image_of base.old) (IsNothingThere (node_of reference.now)))) }
+    ensures spent { result ≡ Err TnSpent → ForSome (image_of base.old) (IsSomethingThere (node_of reference.now)) }
+    ensures read { OnlyRead H.told H.moment H.failures H.left_since base.old base.new }
+    ensures ends { EndsDraftingKill base.old.header (length (key_bytes (node_of reference.now)))
+        (image_of base.old ≡ None) (H.failures base.old.host) (H.failures base.new.host) result }
+{
+    let header = *base.header();
+    let key = short_key(&header, reference)?;
+    let mut draft = base.draft(alloc);
+    base.hold_draft(&draft);
+    let Some(root) = root_within(alloc, base, &draft, reference, &key)? else {
+        return Ok(None);
+    };
+    if header.tn >= LAST_NUMBER {
+        return Err(BaseError::TnSpent);
+    }
+    kill_in_draft(alloc, base, &mut draft, reference, root, &key)?;
+    base.hold_draft(&draft);
+    Ok(Some(draft))
 }

@@ -8,10 +8,11 @@ mod laws;
 mod planting;
 mod ready;
 mod setting;
+mod taking;
 
 pub use asking::get;
 pub use committing::set;
-pub use killing::kill;
+pub use killing::{draft_kill, kill};
 pub use laws::item_of_global;
 pub use ready::draft_set;
 pub use setting::set_in_draft;
