@@ -27,7 +27,7 @@ pub same_some : {A : Type 0} (a b : A) → Some a ≡ Some b → a ≡ b
 same_some a b e = cc
 
 -- a tree has the block that it stands on
-own_block : (image : List ℕ) (level : ℕ) (v : Visit) (t : Tree) → sound_tree image level v ≡ Some t
+pub own_block : (image : List ℕ) (level : ℕ) (v : Visit) (t : Tree) → sound_tree image level v ≡ Some t
     → IsIn t.blocks v.block
 own_block image zero v t h =
     let p = leaf_parts image v t h in

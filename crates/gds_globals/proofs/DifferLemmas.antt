@@ -52,7 +52,7 @@ one_fewer p u (suc n) =
     and_true false = refl
 
 -- Where a number passes only if a unit has it, no more pass than there are units.
-few_pass : (units : List WaitingUnit) (p : ℕ → Bool) (n : ℕ)
+pub few_pass : (units : List WaitingUnit) (p : ℕ → Bool) (n : ℕ)
     → ((k : ℕ) → k < n → waiting_bytes units (k + 1) ≡ None → p k ≡ false) → count_below p n ≤ length units
 few_pass [] p n only = omega (arith, count_none p n (λ k low. only k low refl))
 few_pass (w ∷ units) p n only =
@@ -73,13 +73,13 @@ few_pass (w ∷ units) p n only =
 
 module _ (image : List ℕ) (draft : DraftState) (file : List ℕ) (is : IsDraftOf image draft)
     (few : draft.header.tn < 2 ^ 63) (made : IsCommitted draft image file) where
-  fields : fields_of file ≡ next_header draft.header
+  pub fields : fields_of file ≡ next_header draft.header
   fields =
       (committed_is_stamped image draft file is few made).fields
       ∙ ap next_header (drafted_read image draft is).fields
 
   -- Where the total stays, a block that the draft hasn't stays.
-  block_stays : draft.header.total ≡ (fields_of image).total → (n : ℕ) → n < (fields_of image).total
+  pub block_stays : draft.header.total ≡ (fields_of image).total → (n : ℕ) → n < (fields_of image).total
       → block_in draft n ≡ None → block_of file n ≡ block_of image n
   block_stays same n low none =
       let within : n < draft.header.total = omega (arith, same, low) in
@@ -87,10 +87,10 @@ module _ (image : List ℕ) (draft : DraftState) (file : List ℕ) (is : IsDraft
       ∙ ap (or_block draft.header image n) none
       ∙ cond-true (nat_lt n (fields_of image).total) _ _ (lt-ltb n (fields_of image).total low)
 
-  same_bytes : (n : ℕ) → block_of file n ≡ block_of image n → is_changed image file n ≡ false
+  pub same_bytes : (n : ℕ) → block_of file n ≡ block_of image n → is_changed image file n ≡ false
   same_bytes n e = ap not ((bytes_eq-Decides (block_of image n) (block_of file n)).1 (sym e))
 
-  header_once : (b : Bool) → (if b then 0 else 1) ≤ 1
+  pub header_once : (b : Bool) → (if b then 0 else 1) ≤ 1
   header_once true = omega arith
   header_once false = omega arith
 

@@ -29,7 +29,7 @@ use Rattle.gds_find.specs.Found.{IsValueOf}
 use Rattle.gds_globals.specs.Node.{IsRootOf, name_key}
 use Rattle.gds_globals.proofs.NameLemmas.{name_of_key, plain_key}
 
-each_in : {A : Type 0} (P : A → Type 0) (xs : List A) → AllByRecursion P xs → (x : A) → IsIn xs x → P x
+pub each_in : {A : Type 0} (P : A → Type 0) (xs : List A) → AllByRecursion P xs → (x : A) → IsIn xs x → P x
 each_in P [] h x i = absurd i
 each_in P (y ∷ ys) h x (inl e) = subst P e h.0
 each_in P (y ∷ ys) h x (inr i) = each_in P ys h.1 x i
@@ -40,7 +40,7 @@ keys_whole p (x ∷ xs) h e (inl same) = subst (λ (w : Item). IsKey w.key) same
 keys_whole p (x ∷ xs) h e (inr i) = keys_whole x.key xs h.1 e i
 
 -- items that rise by their keys are one where their keys are
-one_item : (xs : List Item) → Rising key_cmp xs → (a b : Item) → IsIn xs a → IsIn xs b → a.key ≡ b.key → a ≡ b
+pub one_item : (xs : List Item) → Rising key_cmp xs → (a b : Item) → IsIn xs a → IsIn xs b → a.key ≡ b.key → a ≡ b
 one_item [] r a b i j same = absurd i
 one_item (x ∷ xs) r a b (inl e) (inl f) same = sym e ∙ f
 one_item (x ∷ xs) r a b (inr i) (inr j) same = one_item xs r.1 a b i j same

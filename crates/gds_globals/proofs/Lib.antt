@@ -15,3 +15,13 @@ mod DeepLemmas
 mod CrashLemmas
 mod CommittingLemmas
 mod DifferLemmas
+mod WithinLemmas
+mod OwnTreeLemmas
+mod KilledLemmas
+mod DropLemmas
+mod FirstLemmas
+mod RootLemmas
+mod TakingLemmas
+mod KillReadyLemmas
+mod BesideLemmas
+mod KillEndingLemmas

@@ -39,7 +39,7 @@ use Rattle.gds_globals.proofs.NewGlobalLemmas.{lawful_file}
 use Rattle.gds_globals.proofs.SetLemmas.{set_is_in_map}
 
 -- The image with an empty draft is the image.
-same_empty : (image : List ℕ) (d : DraftState) → IsEmptyOf image d → All (λ b. b < 256) image → IsFaultless image
+pub same_empty : (image : List ℕ) (d : DraftState) → IsEmptyOf image d → All (λ b. b < 256) image → IsFaultless image
     → drafted d image ≡ image
 same_empty image d is bytes faultless =
     ap (λ (x : DraftState). drafted x image) (λ i. record { header = is.header i; units = is.none i })

@@ -4,3 +4,5 @@ pub mod SetLaws
 pub mod Planting
 pub mod Ready
 pub mod Deep
+pub mod Kill
+pub mod Killing

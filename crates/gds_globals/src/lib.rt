@@ -3,13 +3,16 @@
 
 mod asking;
 mod committing;
+mod killing;
 mod laws;
 mod planting;
 mod ready;
 mod setting;
+mod taking;
 
 pub use asking::get;
 pub use committing::set;
+pub use killing::{draft_kill, kill};
 pub use laws::item_of_global;
 pub use ready::draft_set;
 pub use setting::set_in_draft;

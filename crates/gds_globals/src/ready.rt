@@ -21,7 +21,7 @@ use m_key::Reference;
 use std::alloc::Global;
 
 /// No commit begins at this transaction number.
-const LAST_NUMBER: u64 = 1 << 63;
+pub(crate) const LAST_NUMBER: u64 = 1 << 63;
 
 /// Makes a SET ready: the draft with which a commit makes the image that of the map after the SET.
 ///
