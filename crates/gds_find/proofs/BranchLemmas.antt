@@ -28,8 +28,8 @@ use Rattle.gds_tree.proofs.TestLemmas.{below_less, most_from}
 use Rattle.gds_tree.proofs.TreeByLemmas.{by_index, by_leaf}
 use Rattle.m_key.specs.Key.{AtMost, Below}
 use Rattle.gds_find.specs.Fork.{BeginsBelow, BeginsFrom, Branches, ForksAt, GoesOn, IsBoundKey, IsBranchFor}
-use Rattle.gds_find.specs.Fork.{IsFork, IsPassed, first_child, past}
-use Rattle.gds_find.specs.Next.{HasTreeFrom, IsBefore, IsBoundWithin, IsFirstFrom, IsFrom}
+use Rattle.gds_find.specs.Fork.{IsFork, IsPassed, LeafPlace, TakesFirst, first_child, past}
+use Rattle.gds_find.specs.Next.{HasTreeFrom, IsBefore, IsBoundWithin, IsFrom}
 use Rattle.gds_find.specs.Trail.{HoldsKey}
 use Rattle.gds_find.specs.declared.forking.Fork.{Fork}
 use Rattle.gds_find.specs.declared.forking.Fork.TheVariants.{Down, Here}
@@ -215,28 +215,28 @@ module _ (file : List ℕ) (i : IsImage file) (v : Visit) (level : ℕ) (es : Li
 -- ---- what is said of the block's bytes
 
 -- what is said of bytes where a level may be due
-abbrev pub SaysFork : List ℕ → Option ℕ → Bound (List ℕ) → Item → Option Fork → Type 0
-SaysFork bytes due from e o =
+abbrev pub SaysFork : List ℕ → Option ℕ → Bound (List ℕ) → (LeafPlace → Item → Type 0) → Option Fork → Type 0
+SaysFork bytes due from took o =
     (height : ℕ) (es : List Item) → IsBoundKey from → IsDueLevel due height → IsPackedBlock bytes height es
-    → IsSomeAnd o (IsFork height es from e)
+    → IsSomeAnd o (IsFork height es from took)
 
 module _ (file : List ℕ) (v : Visit) (from : Bound (List ℕ)) (image : IsImage file)
     (there : v.block < (fields_of file).total) (bytes : All (λ b. b < 256) (block_of file v.block))
-    (within : IsBoundWithin v from) (e : Item) (o : Option Fork)
-    (says : SaysFork (block_of file v.block) v.level from e o)
+    (within : IsBoundWithin v from) (took : LeafPlace → Item → Type 0) (o : Option Fork)
+    (says : SaysFork (block_of file v.block) v.level from took o)
   where
-    by_level : (level : ℕ) (t : Tree) → sound_tree file level v ≡ Some t → IsSomeAnd o (ForksAt file t.items from e)
+    by_level : (level : ℕ) (t : Tree) → sound_tree file level v ≡ Some t → IsSomeAnd o (ForksAt file t.items from took)
     by_level zero t sound =
         let l = by_leaf file v t image there sound in
         let due = subst (IsDueLevel v.level) l.has.level l.has.right.head.level in
         leaf l.es (ap (λ (x : Tree). x.items) l.is) o
         (says 0 l.es (bound_key v from within) due (packed_at file v 0 l.es image l.has bytes))
       where
-        leaf : (es : List Item) → t.items ≡ es → (o : Option Fork) → IsSomeAnd o (IsFork 0 es from e)
-            → IsSomeAnd o (ForksAt file t.items from e)
+        leaf : (es : List Item) → t.items ≡ es → (o : Option Fork) → IsSomeAnd o (IsFork 0 es from took)
+            → IsSomeAnd o (ForksAt file t.items from took)
         leaf es same None is = is
         leaf es same (Some (Down level child next)) is = absurd (omega (arith, is.1))
-        leaf es same (Some (Here found)) is = subst (λ xs. IsFirstFrom xs from found e) (sym same) is.1
+        leaf es same (Some (Here found)) is = subst (λ xs. TakesFirst xs from took found) (sym same) is.1
     by_level (suc level) t sound =
         let x = by_index file v level t image there sound in
         let due = subst (IsDueLevel v.level) x.has.level x.has.right.head.level in
@@ -245,7 +245,7 @@ module _ (file : List ℕ) (v : Visit) (from : Bound (List ℕ)) (image : IsImag
       where
         index : (es : List Item) → HasEntries file v (suc level) es → (below : Tree)
             → trees_below file v level v.low es ≡ Some below → t.items ≡ below.items → (o : Option Fork)
-            → IsSomeAnd o (IsFork (suc level) es from e) → IsSomeAnd o (ForksAt file t.items from e)
+            → IsSomeAnd o (IsFork (suc level) es from took) → IsSomeAnd o (ForksAt file t.items from took)
         index es has below trees same None is = is
         index es has below trees same (Some (Here found)) is = absurd (omega (arith, is.0))
         index es has below trees same (Some (Down height child next)) is =
@@ -255,13 +255,13 @@ module _ (file : List ℕ) (v : Visit) (from : Bound (List ℕ)) (image : IsImag
 
 -- The block of a visit with a sound tree says where its items from a bound on begin.
 pub forked : (file : List ℕ) (v : Visit) (block : ℕ) (due : Option ℕ) (from : Bound (List ℕ)) (bytes : List ℕ)
-    (e : Item) (o : Option Fork) → IsExact file → (has : HasTreeFrom file v block due from)
-    → bytes ≡ block_of file block → All (λ b. b < 256) bytes → SaysFork bytes due from e o
-    → IsSomeAnd o (ForksAt file has.tree.items from e)
-forked file v block due from bytes e o exact has is all says =
+    (took : LeafPlace → Item → Type 0) (o : Option Fork) → IsExact file → (has : HasTreeFrom file v block due from)
+    → bytes ≡ block_of file block → All (λ b. b < 256) bytes → SaysFork bytes due from took o
+    → IsSomeAnd o (ForksAt file has.tree.items from took)
+forked file v block due from bytes took o exact has is all says =
     let own : bytes ≡ block_of file v.block = is ∙ ap (block_of file) (sym has.block_is) in
-    let said : SaysFork (block_of file v.block) v.level from e o =
-    subst (λ d. SaysFork (block_of file v.block) d from e o) (sym has.level_is)
-    (subst (λ xs. SaysFork xs due from e o) own says) in
+    let said : SaysFork (block_of file v.block) v.level from took o =
+    subst (λ d. SaysFork (block_of file v.block) d from took o) (sym has.level_is)
+    (subst (λ xs. SaysFork xs due from took o) own says) in
     by_level file v from exact.image (tree_within file v has.tree exact.long has.sound)
-    (subst (All (λ b. b < 256)) own all) has.within e o said (level_of (block_of file v.block)) has.tree has.sound
+    (subst (All (λ b. b < 256)) own all) has.within took o said (level_of (block_of file v.block)) has.tree has.sound

@@ -10,3 +10,4 @@ mod StartLemmas
 mod ForkLemmas
 pub mod BranchLemmas
 mod NextLemmas
+mod ScanLemmas

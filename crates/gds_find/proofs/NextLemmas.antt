@@ -21,7 +21,7 @@ use Rattle.gds_header.specs.Fields.{block_of}
 use Rattle.gds_header.specs.declared.header.Header.{Header}
 use Rattle.gds_law.specs.Visit.{Visit}
 use Rattle.gds_tree.proofs.BelowLemmas.{all_both}
-use Rattle.gds_find.specs.Fork.{Branches, ForksAt, GoesOn}
+use Rattle.gds_find.specs.Fork.{Branches, ForksAt, GoesOn, IsFirstTaken, IsInLeaf, LeafPlace, TakesFirst}
 use Rattle.gds_find.specs.Next.{HasTreeFrom, IsBefore, IsFirstFor, IsFirstFrom, IsFrom}
 use Rattle.gds_find.specs.declared.forking.Fork.{Fork}
 use Rattle.gds_find.specs.declared.forking.Fork.TheVariants.{Down}
@@ -45,29 +45,29 @@ module _ (told : Option (List ℕ)) (draft : DraftState) (block : ℕ) (due : Op
       omega (arith, low, past, has.block_is, ap (λ (h : Header). h.total) fields)
 
   -- the first item from the bound on of each tree that may stand there
-  abbrev pub FirstThere : Item → Bool → Type 0
-  FirstThere e found =
+  abbrev pub FirstThere : (LeafPlace → Item → Type 0) → Bool → Type 0
+  FirstThere took found =
       ForSome told (λ image. (v : Visit) (has : HasTreeFrom (drafted draft image) v block due from)
-      → IsFirstFrom has.tree.items from found e)
+      → TakesFirst has.tree.items from took found)
 
-  module _ (e : Item) where
+  module _ (took : LeafPlace → Item → Type 0) where
     -- what the block says of it
     abbrev pub ForksThere : Fork → Type 0
     ForksThere fork =
         ForSome told (λ image. (v : Visit) (has : HasTreeFrom (drafted draft image) v block due from)
-        → ForksAt (drafted draft image) has.tree.items from e fork)
+        → ForksAt (drafted draft image) has.tree.items from took fork)
 
     -- For each such tree it says something.
     abbrev pub AlwaysForks : Option Fork → Type 0
     AlwaysForks o =
         ForSome told (λ image. (v : Visit) (has : HasTreeFrom (drafted draft image) v block due from)
-        → IsSomeAnd o (ForksAt (drafted draft image) has.tree.items from e))
+        → IsSomeAnd o (ForksAt (drafted draft image) has.tree.items from took))
 
     pub always_forks : (bytes : List ℕ) (o : Option Fork) → ForSome told (λ image. IsDraftOf image draft)
         → ForSome told (λ image. bytes ≡ block_of (drafted draft image) block) → All (λ b. b < 256) bytes
-        → SaysFork bytes due from e o → AlwaysForks o
+        → SaysFork bytes due from took o → AlwaysForks o
     always_forks bytes o is reads all says image is_told v has =
-        forked (drafted draft image) v block due from bytes e o (drafted_exact image draft (is image is_told)) has
+        forked (drafted draft image) v block due from bytes took o (drafted_exact image draft (is image is_told)) has
         (reads image is_told) all says
 
     pub fork_answered : (o : Option Fork) (error : BaseError) (r : Result Fork BaseError) → r ≡ ok_or o error
@@ -91,74 +91,101 @@ both_before from xs ys h k =
     All-from_recursion (Before from) (xs ++ ys)
     (all_both (Before from) xs ys (recursion_from_All (Before from) xs h) (recursion_from_All (Before from) ys k))
 
-pub first_inside : (items left inner right : List Item) (from : Bound (List ℕ)) (e : Item)
-    → items ≡ left ++ inner ++ right → All (Before from) left → IsFirstFor inner from e → IsFirstFor items from e
-first_inside items left inner right from e whole passed f = record {
-  before = left ++ f.before;
-  behind = f.behind ++ right;
-  parts = whole ∙ ap (λ xs. left ++ xs ++ right) f.parts
-      ∙ ap (λ xs. xs ++ right) (sym (append_assoc left f.before (e ∷ f.behind)))
-      ∙ append_assoc (left ++ f.before) (e ∷ f.behind) right;
-  passed = both_before from left f.before passed f.passed;
-  from_there = f.from_there;
+-- More items behind change nothing for an entry of a leaf.
+in_leaf : (place : LeafPlace) (e : Item) (behind more : List Item) → IsInLeaf place e behind
+    → IsInLeaf place e (behind ++ more)
+in_leaf place e behind more leaf = record {
+  front = leaf.front;
+  back = leaf.back;
+  later = leaf.later ++ more;
+  packed = leaf.packed;
+  used_is = leaf.used_is;
+  end_is = leaf.end_is;
+  behind_is = ap (λ xs. xs ++ more) leaf.behind_is ∙ append_assoc leaf.back leaf.later more;
 }
 
-pub none_inside : (items left inner right : List Item) (from : Bound (List ℕ)) → items ≡ left ++ inner ++ right
+first_inside : (items left inner right : List Item) (from : Bound (List ℕ)) (took : LeafPlace → Item → Type 0)
+    → items ≡ left ++ inner ++ right → All (Before from) left → IsFirstTaken inner from took
+    → IsFirstTaken items from took
+first_inside items left inner right from took whole passed t = record {
+  e = t.e;
+  first = record {
+    before = left ++ t.first.before;
+    behind = t.first.behind ++ right;
+    parts = whole ∙ ap (λ xs. left ++ xs ++ right) t.first.parts
+        ∙ ap (λ xs. xs ++ right) (sym (append_assoc left t.first.before (t.e ∷ t.first.behind)))
+        ∙ append_assoc (left ++ t.first.before) (t.e ∷ t.first.behind) right;
+    passed = both_before from left t.first.before passed t.first.passed;
+    from_there = t.first.from_there;
+  };
+  place = t.place;
+  leaf = in_leaf t.place t.e t.first.behind right t.leaf;
+  taken = t.taken;
+}
+
+none_inside : (items left inner right : List Item) (from : Bound (List ℕ)) → items ≡ left ++ inner ++ right
     → All (Before from) left → All (Before from) inner → right ≡ [] → All (Before from) items
 none_inside items left inner right from whole passed inside none =
     subst (All (Before from)) (sym (whole ∙ ap (λ xs. left ++ inner ++ xs) none ∙ append-nil (left ++ inner)))
     (both_before from left inner passed inside)
 
 -- Nothing stands before no bound.
-none_first : (xs : List Item) → AllByRecursion (Before Unbounded) xs → xs ≡ []
+pub none_first : (xs : List Item) → AllByRecursion (Before Unbounded) xs → xs ≡ []
 none_first [] h = refl
 none_first (x ∷ xs) h = absurd h.0
 
-pub first_right : (items left inner right more far : List Item) (from : Bound (List ℕ)) (found : Bool) (e : Item)
+first_right : (items left inner right more far : List Item) (from : Bound (List ℕ))
+    (took : LeafPlace → Item → Type 0) (found : Bool)
     → items ≡ left ++ inner ++ right → right ≡ more ++ far → All (Before from) left → All (Before from) inner
-    → (more ≡ [] → ⊥) → All (λ i. IsFrom from i.key) more → IsFirstFrom more Unbounded found e
-    → IsFirstFrom items from found e
-first_right items left inner right more far from false e whole parts passed inside some there f =
-    absurd (some (none_first more (recursion_from_All (Before Unbounded) more f)))
-first_right items left inner right more far from true e whole parts passed inside some there f =
-    let none = none_first f.before (recursion_from_All (Before Unbounded) f.before f.passed) in
-    let begins : more ≡ e ∷ f.behind = f.parts ∙ ap (λ xs. xs ++ e ∷ f.behind) none in
+    → (more ≡ [] → ⊥) → All (λ i. IsFrom from i.key) more → TakesFirst more Unbounded took found
+    → TakesFirst items from took found
+first_right items left inner right more far from took false whole parts passed inside some there none =
+    absurd (some (none_first more (recursion_from_All (Before Unbounded) more none)))
+first_right items left inner right more far from took true whole parts passed inside some there t =
+    let none = none_first t.first.before (recursion_from_All (Before Unbounded) t.first.before t.first.passed) in
+    let begins : more ≡ t.e ∷ t.first.behind = t.first.parts ∙ ap (λ xs. xs ++ t.e ∷ t.first.behind) none in
     record {
-      before = left ++ inner;
-      behind = f.behind ++ far;
-      parts = whole ∙ ap (λ xs. left ++ inner ++ xs) (parts ∙ ap (λ xs. xs ++ far) begins);
-      passed = both_before from left inner passed inside;
-      from_there =
-          (recursion_from_All (λ (i : Item). IsFrom from i.key) (e ∷ f.behind)
-          (subst (All (λ (i : Item). IsFrom from i.key)) begins there)).0;
+      e = t.e;
+      first = record {
+        before = left ++ inner;
+        behind = t.first.behind ++ far;
+        parts = whole ∙ ap (λ xs. left ++ inner ++ xs) (parts ∙ ap (λ xs. xs ++ far) begins);
+        passed = both_before from left inner passed inside;
+        from_there =
+            (recursion_from_All (λ (i : Item). IsFrom from i.key) (t.e ∷ t.first.behind)
+            (subst (All (λ (i : Item). IsFrom from i.key)) begins there)).0;
+      };
+      place = t.place;
+      leaf = in_leaf t.place t.e t.first.behind far t.leaf;
+      taken = t.taken;
     }
 
 -- ---- what is found below an index block
 
 -- The image is told first and then again, and the block of the root leads on.
 module _ (told mid : Option (List ℕ)) (same : mid ≡ told) (draft : DraftState) (block : ℕ) (due : Option ℕ)
-    (from : Bound (List ℕ)) (first : Item) (fork : Fork) (level child : ℕ) (next : Option ℕ)
-    (is : fork ≡ Down level child next) (forks : ForksThere told draft block due from first fork) where
+    (from : Bound (List ℕ)) (early : LeafPlace → Item → Type 0) (fork : Fork) (level child : ℕ) (next : Option ℕ)
+    (is : fork ≡ Down level child next) (forks : ForksThere told draft block due from early fork) where
   branched : ForSome told (λ image. (v : Visit) (has : HasTreeFrom (drafted draft image) v block due from)
       → Branches (drafted draft image) has.tree.items from level child next)
   branched image is_told v has =
-      subst (ForksAt (drafted draft image) has.tree.items from first) is (forks image is_told v has)
+      subst (ForksAt (drafted draft image) has.tree.items from early) is (forks image is_told v has)
 
   pub none_child : HasNone mid draft child (Some (level - 1)) from → HasNone told draft block due from
   none_child none image is_told v has =
       let b = branched image is_told v has in
       none image (same ∙ is_told) b.visit b.tree
 
-  pub found_child : (e : Item) → FirstThere mid draft child (Some (level - 1)) from e true
-      → FirstThere told draft block due from e true
-  found_child e finds image is_told v has =
+  pub found_child : (took : LeafPlace → Item → Type 0) → FirstThere mid draft child (Some (level - 1)) from took true
+      → FirstThere told draft block due from took true
+  found_child took finds image is_told v has =
       let b = branched image is_told v has in
-      first_inside has.tree.items b.left b.tree.tree.items b.right from e b.parts b.passed
+      first_inside has.tree.items b.left b.tree.tree.items b.right from took b.parts b.passed
       (finds image (same ∙ is_told) b.visit b.tree)
 
-  pub nothing_left : (e d : Item) → next ≡ None → FirstThere mid draft child (Some (level - 1)) from e false
-      → FirstThere told draft block due from d false
-  nothing_left e d last finds image is_told v has =
+  pub nothing_left : (took : LeafPlace → Item → Type 0) → next ≡ None
+      → FirstThere mid draft child (Some (level - 1)) from took false → FirstThere told draft block due from took false
+  nothing_left took last finds image is_told v has =
       let b = branched image is_told v has in
       none_inside has.tree.items b.left b.tree.tree.items b.right from b.parts b.passed
       (finds image (same ∙ is_told) b.visit b.tree)
@@ -171,22 +198,38 @@ module _ (told mid : Option (List ℕ)) (same : mid ≡ told) (draft : DraftStat
         let right = subst (λ o. GoesOn (drafted draft image) from (level - 1) o b.right) more b.goes_on in
         none image (still ∙ is_told) right.visit right.tree
 
-    pub found_next : (d e : Item) (found : Bool) → FirstThere mid draft child (Some (level - 1)) from d false
-        → FirstThere again draft other (Some (level - 1)) Unbounded e found
-        → FirstThere told draft block due from e found
-    found_next d e found inside finds image is_told v has =
+    found_next : (early took : LeafPlace → Item → Type 0) (found : Bool)
+        → FirstThere mid draft child (Some (level - 1)) from early false
+        → FirstThere again draft other (Some (level - 1)) Unbounded took found
+        → FirstThere told draft block due from took found
+    found_next early took found inside finds image is_told v has =
         let b = branched image is_told v has in
         let right = subst (λ o. GoesOn (drafted draft image) from (level - 1) o b.right) more b.goes_on in
-        first_right has.tree.items b.left b.tree.tree.items b.right right.tree.tree.items right.far from found e
+        first_right has.tree.items b.left b.tree.tree.items b.right right.tree.tree.items right.far from took found
         b.parts right.parts b.passed (inside image (same ∙ is_told) b.visit b.tree) right.some right.from_there
         (finds image (still ∙ is_told) right.visit right.tree)
 
-    pub answered_next : (d e : Item) (r : Result Bool BaseError)
-        → FirstThere mid draft child (Some (level - 1)) from d false
-        → IfOk r (FirstThere again draft other (Some (level - 1)) Unbounded e)
-        → IfOk r (FirstThere told draft block due from e)
-    answered_next d e (Ok found) inside finds = found_next d e found inside finds
-    answered_next d e (Err error) inside finds = tt
+    pub answered_next : (early took : LeafPlace → Item → Type 0) (r : Result Bool BaseError)
+        → FirstThere mid draft child (Some (level - 1)) from early false
+        → IfOk r (FirstThere again draft other (Some (level - 1)) Unbounded took)
+        → IfOk r (FirstThere told draft block due from took)
+    answered_next early took (Ok found) inside finds = found_next early took found inside finds
+    answered_next early took (Err error) inside finds = tt
+
+-- What an entry took is the first item.
+taken_first : (items : List Item) (from : Bound (List ℕ)) (own : Item) (found : Bool)
+    → TakesFirst items from (λ place e. own ≡ e) found → IsFirstFrom items from found own
+taken_first items from own true t = subst (IsFirstFor items from) (sym t.taken) t.first
+taken_first items from own false none = none
+
+pub first_answered : (told : Option (List ℕ)) (draft : DraftState) (block : ℕ) (due : Option ℕ)
+    (from : Bound (List ℕ)) (own : Item) (r : Result Bool BaseError)
+    → IfOk r (FirstThere told draft block due from (λ place e. own ≡ e))
+    → IfOk r (λ found. ForSome told (λ image. (v : Visit) (has : HasTreeFrom (drafted draft image) v block due from)
+    → IsFirstFrom has.tree.items from found own))
+first_answered told draft block due from own (Ok found) takes =
+    λ image is_told v has. taken_first has.tree.items from own found (takes image is_told v has)
+first_answered told draft block due from own (Err error) takes = tt
 
 -- how a call ends that hands on another's error
 pub exit_later : {T : Type 0} (before mid now : Failures) (P Q : Type 0) (error : BaseError) (r : Result T BaseError)

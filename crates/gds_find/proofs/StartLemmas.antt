@@ -14,6 +14,7 @@ use Rattle.gds_pack.specs.Packable.{AreIndex, AreLeaves, ArePackable}
 use Rattle.gds_pack.specs.Packed.{key_behind, packed_size}
 use Rattle.gds_pack.proofs.BoundLemmas.{shared-between}
 use Rattle.gds_pack.proofs.SizeLemmas.{key_behind-append, records_size-append}
+use Rattle.gds_search.specs.PackedBlock.{IsPackedBlock}
 use Rattle.gds_search.specs.Place.{BeginsAbove, BeginsAt, IsBelow, IsPlace}
 use Rattle.gds_search.specs.declared.place.Place.{Place}
 use Rattle.gds_tree.proofs.BelowLemmas.{all_both, all_weaker}
@@ -23,8 +24,9 @@ use Rattle.gds_tree.proofs.TestLemmas.{below_less, less_below, most_cases, most_
 use Rattle.m_key.specs.Key.{AtMost, Below}
 use Rattle.m_key.specs.KeyEnd.{IsKey, shared}
 use Rattle.m_key.proofs.KeyEndLemmas.{shared-nil, take-shared}
-use Rattle.gds_find.specs.Fork.{BeginsFrom, BeginsWith, IsPassed, IsStart, IsStartFor, front_of}
-use Rattle.gds_find.specs.Next.{IsBefore, IsFirstFor, IsFrom}
+use Rattle.gds_find.specs.Fork.{BeginsFrom, BeginsWith, IsFirstTaken, IsPassed, IsStart, IsStartFor}
+use Rattle.gds_find.specs.Fork.{LeafPlace}
+use Rattle.gds_find.specs.Next.{IsBefore, IsFrom}
 
 -- ---- what a key at or above another shares with the key before both
 
@@ -144,7 +146,7 @@ next_above zero before own behind h = leaf_next own.key behind (leaves_right [] 
 next_above (suc level) before own behind h =
     index_next (key_behind [] before) own behind (index_front [] before own behind h).rest
 
-next_shared : (key : List ℕ) (before behind : List Item) → key_behind [] before ≡ key → BeginsWith key before behind
+pub next_shared : (key : List ℕ) (before behind : List Item) → key_behind [] before ≡ key → BeginsWith key before behind
 next_shared key before [] last = tt
 next_shared key before (own ∷ behind) last =
     ap (λ p. take (shared p own.key) key) last ∙ take-shared key own.key
@@ -234,22 +236,39 @@ module _ (es : List Item) (from : Bound (List ℕ)) (start : ℕ) where
       (recursion_from_All (IsPassed from) before is.passed))
   index_there (before, own ∷ behind, is) index = (before, own, behind, is)
 
--- The first of a level-0 block.
-pub first_here : (es : List Item) (from : Bound (List ℕ)) (start : ℕ) (before : List Item) (own : Item)
-    (behind : List Item) (e : Item) → AreLeaves [] es → IsStartFor es from start before (own ∷ behind)
-    → e.key ≡ own.key → e.rest ≡ own.rest → IsFirstFor es from e
-first_here es from start before own behind e leaves is key_is rest_is =
-    let next = leaves_right [] before (own ∷ behind) (subst (AreLeaves []) is.parts leaves) in
+-- The first of a level-0 block was taken from its place.
+pub first_taken : (es : List Item) (from : Bound (List ℕ)) (start : ℕ) (before : List Item) (own : Item)
+    (behind : List Item) → IsStartFor es from start before (own ∷ behind) → (took : LeafPlace → Item → Type 0)
+    (place : LeafPlace) → IsPackedBlock place.bytes 0 es → place.used ≡ packed_size es
+    → place.end ≡ packed_size (before ++ own ∷ []) → (e : Item) → e.key ≡ own.key → e.rest ≡ own.rest → took place e
+    → IsFirstTaken es from took
+first_taken es from start before own behind is took place packed used end e key_is rest_is taken =
+    let next = leaves_right [] before (own ∷ behind) (subst (AreLeaves []) is.parts packed.packable) in
     let same : own ≡ e = λ k. record { key = sym key_is k; rest = sym rest_is k } in
+    let parts : es ≡ before ++ e ∷ behind = is.parts ∙ ap (λ i. before ++ i ∷ behind) same in
     record {
-      before = before;
-      behind = behind;
-      parts = is.parts ∙ ap (λ i. before ++ i ∷ behind) same;
-      passed = passed_before from before is.passed;
-      from_there = elim is.begins [
-        | inl none ↦ absurd (some_key own.key next.0.is_key none)
-        | inr there ↦ subst (IsFrom from) (sym key_is) there
-      ];
+      e = e;
+      first = record {
+        before = before;
+        behind = behind;
+        parts = parts;
+        passed = passed_before from before is.passed;
+        from_there = elim is.begins [
+          | inl none ↦ absurd (some_key own.key next.0.is_key none)
+          | inr there ↦ subst (IsFrom from) (sym key_is) there
+        ];
+      };
+      place = place;
+      leaf = record {
+        front = before;
+        back = behind;
+        later = [];
+        packed = subst (IsPackedBlock place.bytes 0) parts packed;
+        used_is = used ∙ ap packed_size parts;
+        end_is = ap (λ i. packed_size (before ++ i ∷ [])) (sym same) ∙ sym end;
+        behind_is = sym (append-nil behind);
+      };
+      taken = taken;
     }
 
 -- Whether another entry stands behind one.
@@ -268,9 +287,9 @@ none_behind before own (e ∷ behind) most =
       ap packed_size (append_assoc before (own ∷ []) (e ∷ behind)),
     ))
 
--- The front with which the key at a start begins, as the code has it.
-pub shares_front : (es : List Item) (from : Bound (List ℕ)) (start : ℕ) (before : List Item) (own : Item)
-    (behind : List Item) → IsStartFor es from start before (own ∷ behind) → (front : List ℕ) → front ≡ front_of from
+-- Bytes with which a key begins, as the code has them.
+pub front_same : (before : List Item) (own : Item) (behind : List Item) (key front : List ℕ) → front ≡ key
+    → BeginsWith key before (own ∷ behind)
     → take (shared (key_behind [] before) own.key) front ≡ take (shared (key_behind [] before) own.key) own.key
-shares_front es from start before own behind is front same =
-    ap (take (shared (key_behind [] before) own.key)) same ∙ is.shares
+front_same before own behind key front same begins =
+    ap (take (shared (key_behind [] before) own.key)) same ∙ begins

@@ -73,7 +73,7 @@ last_block steps path block offset copied step is steps_are some =
 
 -- ---- whether an item has the key
 
-not_itself : (key : List ℕ) → Below key key → ⊥
+pub not_itself : (key : List ℕ) → Below key key → ⊥
 not_itself key h =
     let tied = tied_itself cmp_total key in
     let less = below_less key key h in

@@ -1,14 +1,16 @@
 -- What one block of a tree says of the items from a bound on.
-use Rattle.std.specs.Prelude.{◌≡◌, ◌≢◌, ◌<◌, ◌-◌, ◌⊎◌, ℕ, All, List, [], ◌∷◌, ◌++◌, take, Option, None, Some}
+use Rattle.std.specs.Prelude.{◌≡◌, ◌≢◌, ◌<◌, ◌-◌, ◌⊎◌, ℕ, Bool, true, false, All, List, [], ◌∷◌, ◌++◌, take}
+use Rattle.std.specs.Prelude.{Option, None, Some}
 use Rattle.std.specs.declared.ops.Bound.{Bound}
 use Rattle.std.specs.declared.ops.Bound.TheVariants.{Included, Excluded, Unbounded}
 use Rattle.gds_block.specs.Fields.{u32_at}
 use Rattle.gds_block.specs.Item.{Item}
 use Rattle.gds_law.specs.Visit.{Visit}
 use Rattle.gds_pack.specs.Packed.{key_behind, packed_size}
+use Rattle.gds_search.specs.PackedBlock.{IsPackedBlock}
 use Rattle.gds_tree.specs.RightBlock.{IsDueLevel}
 use Rattle.m_key.specs.KeyEnd.{IsKey, shared}
-use Rattle.gds_find.specs.Next.{HasTreeFrom, IsBefore, IsFirstFrom, IsFrom}
+use Rattle.gds_find.specs.Next.{HasTreeFrom, IsBefore, IsFirstFor, IsFrom}
 use Rattle.gds_find.specs.declared.forking.Fork.{Fork}
 use Rattle.gds_find.specs.declared.forking.Fork.TheVariants.{Down, Here}
 
@@ -57,6 +59,36 @@ pub record IsStartFor (es : List Item) (from : Bound (List ℕ)) (offset : ℕ) 
 abbrev pub IsStart : List Item → Bound (List ℕ) → ℕ → Type 0
 IsStart es from offset = (before : List Item) × (behind : List Item) × IsStartFor es from offset before behind
 
+-- a place in the bytes of a block, of which so many are used: where a record ends
+pub record LeafPlace : Type 0 where
+  pub bytes : List ℕ
+  pub used : ℕ
+  pub end : ℕ
+
+-- The record that ends at a place is that of an entry of a packed level-0 block. The items behind it begin with the
+-- entries behind it in the block.
+pub record IsInLeaf (place : LeafPlace) (e : Item) (behind : List Item) : Type 0 where
+  pub front : List Item
+  pub back : List Item
+  pub later : List Item
+  pub packed : IsPackedBlock place.bytes 0 (front ++ e ∷ back)
+  pub used_is : place.used ≡ packed_size (front ++ e ∷ back)
+  pub end_is : packed_size (front ++ e ∷ []) ≡ place.end
+  pub behind_is : behind ≡ back ++ later
+
+-- The first of these items from a bound on was taken from its place in a block.
+pub record IsFirstTaken (items : List Item) (from : Bound (List ℕ)) (took : LeafPlace → Item → Type 0) : Type 0 where
+  pub e : Item
+  pub first : IsFirstFor items from e
+  pub place : LeafPlace
+  pub leaf : IsInLeaf place e first.behind
+  pub taken : took place e
+
+-- It was taken, where there is one, and else all stand before the bound.
+abbrev pub TakesFirst : List Item → Bound (List ℕ) → (LeafPlace → Item → Type 0) → Bool → Type 0
+TakesFirst items from took true = IsFirstTaken items from took
+TakesFirst items from took false = All (λ i. IsBefore from i.key) items
+
 -- the block of the first of these entries of an index block
 abbrev pub first_child : List Item → Option ℕ
 first_child [] = None
@@ -77,10 +109,10 @@ IsBranch es from child next =
     (before : List Item) × (own : Item) × (behind : List Item) × IsBranchFor es from child next before own behind
 
 -- It is what a block of a level with these entries says of the items from a bound on. Of a level-0 block that is
--- whether it has one, and then the first is this one.
-abbrev pub IsFork : ℕ → List Item → Bound (List ℕ) → Item → Fork → Type 0
-IsFork height es from e (Down level child next) = (level ≡ height) × (0 < height) × IsBranch es from child next
-IsFork height es from e (Here found) = (height ≡ 0) × IsFirstFrom es from found e
+-- whether it has one, and then the first was taken.
+abbrev pub IsFork : ℕ → List Item → Bound (List ℕ) → (LeafPlace → Item → Type 0) → Fork → Type 0
+IsFork height es from took (Down level child next) = (level ≡ height) × (0 < height) × IsBranch es from child next
+IsFork height es from took (Here found) = (height ≡ 0) × TakesFirst es from took found
 
 -- The way goes on from an index block of a level that may be due.
 abbrev pub IsDueFork : Option ℕ → Fork → Type 0
@@ -115,6 +147,6 @@ pub record Branches (file : List ℕ) (items : List Item) (from : Bound (List �
   pub goes_on : GoesOn file from (level - 1) next right
 
 -- It is what the block of a visit says of these items, which are those of its tree.
-abbrev pub ForksAt : List ℕ → List Item → Bound (List ℕ) → Item → Fork → Type 0
-ForksAt file items from e (Down level child next) = Branches file items from level child next
-ForksAt file items from e (Here found) = IsFirstFrom items from found e
+abbrev pub ForksAt : List ℕ → List Item → Bound (List ℕ) → (LeafPlace → Item → Type 0) → Fork → Type 0
+ForksAt file items from took (Down level child next) = Branches file items from level child next
+ForksAt file items from took (Here found) = TakesFirst items from took found

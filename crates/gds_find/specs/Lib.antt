@@ -3,3 +3,4 @@ pub mod Turn
 pub mod Found
 pub mod Next
 pub mod Fork
+pub mod Scan

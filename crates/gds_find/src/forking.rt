@@ -2,18 +2,16 @@ ghost use Rattle.std.specs.Prelude.{◌≡◌, ◌+◌, ◌≤◌, ◌∷◌, �
 ghost use Rattle.std.specs.Range.Bound.{bound_map};
 ghost use Rattle.gds_block.specs.Fields.{u32_at};
 ghost use Rattle.gds_block.specs.Item.{Item};
-ghost use Rattle.gds_pack.specs.Entry.{item};
 ghost use Rattle.gds_pack.specs.Packed.{packed_size};
 ghost use Rattle.gds_search.specs.PackedBlock.{IsPackedBlock};
 ghost use Rattle.gds_tree.specs.RightBlock.{IsDueLevel};
-ghost use Rattle.gds_find.specs.Fork.{IsBoundKey, IsBranch, IsDueFork, IsFork, front_of, past};
-ghost use Rattle.gds_find.specs.Next.{IsFirstFrom};
+ghost use Rattle.gds_find.specs.Fork.{IsBoundKey, IsBranch, IsDueFork, IsFork, TakesFirst, front_of, past};
 
+use crate::receiver::Receiver;
 use crate::record::{packed_at, record_at};
 use crate::start::start_in;
 use crate::turning::is_due;
 use gds_block::{BlockView, u32_at};
-use gds_pack::Entry;
 use std::alloc::AllocError;
 use std::ops::Bound;
 
@@ -32,18 +30,18 @@ pub(crate) enum Fork {
     },
 }
 
-/// What a block says of the entries from a bound on, if it is one of the level that may be due. The first of them fills
-/// `entry`, where it was found.
-pub(crate) fn fork_in(
+/// What a block says of the entries from a bound on, if it is one of the level that may be due. The receiver takes the
+/// first of them, where it was found.
+pub(crate) fn fork_in<R: Receiver>(
     bytes: &[u8],
     due: Option<u8>,
     from: Bound<&[u8]>,
-    entry: &mut Entry,
+    receiver: &mut R,
 ) -> Result<Option<Fork>, AllocError>
     ensures fork { IfOk result (λ fork. (height : ℕ) (es : List Item)
         → IsBoundKey (bound_map (λ key. key.now) from.entry) → IsDueLevel due height
         → IsPackedBlock bytes.now height es
-        → IsSomeAnd fork (IsFork height es (bound_map (λ key. key.now) from.entry) (item entry.new))) }
+        → IsSomeAnd fork (IsFork height es (bound_map (λ key. key.now) from.entry) (R.took receiver.new))) }
     ensures due { IfOk result (λ fork. IfSome fork (IsDueFork due)) }
 {
     let Some(view) = BlockView::new(bytes) else {
@@ -55,7 +53,7 @@ pub(crate) fn fork_in(
     }
     let used = view.used() as usize;
     if level == 0 {
-        let Some(found) = fill_from(bytes, used, from, entry)? else {
+        let Some(found) = take_from(bytes, used, from, receiver)? else {
             return Ok(None);
         };
         return Ok(Some(Fork::Here { found }));
@@ -70,17 +68,17 @@ pub(crate) fn fork_in(
     }))
 }
 
-// Fills `entry` with the first entry of a level-0 block from a bound on. Answers false where there is none, and `None`
-// where it can't be read.
-fn fill_from(
+// Hands the first entry of a level-0 block from a bound on to the receiver. Answers false where there is none, and
+// `None` where it can't be read.
+fn take_from<R: Receiver>(
     bytes: &[u8],
     used: usize,
     from: Bound<&[u8]>,
-    entry: &mut Entry,
+    receiver: &mut R,
 ) -> Result<Option<bool>, AllocError>
     ensures { IfOk result (λ found. (es : List Item) → IsBoundKey (bound_map (λ key. key.now) from.entry)
         → IsPackedBlock bytes.now 0 es → used ≡ packed_size es
-        → IsSomeAnd found (λ found. IsFirstFrom es (bound_map (λ key. key.now) from.entry) found (item entry.new))) }
+        → IsSomeAnd found (TakesFirst es (bound_map (λ key. key.now) from.entry) (R.took receiver.new))) }
 {
     let Some(start) = start_in(bytes, from) else {
         return Ok(None);
@@ -91,9 +89,7 @@ fn fill_from(
     let Some(record) = record_at(bytes, start, front_of(from)) else {
         return Ok(None);
     };
-    entry.key = record.key;
-    entry.rest.clear();
-    entry.rest.extend_from_slice(record.rest)?;
+    receiver.take(bytes, used, record)?;
     Ok(Some(true))
 }
 
