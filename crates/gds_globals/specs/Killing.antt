@@ -2,7 +2,6 @@
 use Rattle.std.specs.Prelude.{◌≡◌, ◌<◌, ◌^◌, ◌≤◌, ℕ, Bool, true, false, IsTrue, All, Contains, List, [], ◌∷◌, Option}
 use Rattle.std.specs.Prelude.{None, Some}
 use Rattle.std.specs.Option.{ForSome}
-use Rattle.gds_base.specs.Drafting.{IsDraftFor}
 use Rattle.gds_base.specs.Faultless.{IsFaultless}
 use Rattle.gds_base.specs.Spaces.{blocks_beside_maps}
 use Rattle.gds_block.specs.Item.{Item}
@@ -79,7 +78,7 @@ abbrev pub DropsGlobal : ℕ → List ℕ → List ℕ → List ℕ → Type 0
 DropsGlobal root name before after =
     (directory : Tree) → MayDrop before directory root
     → TreeBecomes before after directory_root (root ∷ directory.blocks)
-        (items_outside (name_node name) directory.items)
+    (items_outside (name_node name) directory.items)
 
 abbrev pub CannotDrop : ℕ → List ℕ → Type 0
 CannotDrop root file = (directory : Tree) → MayDrop file directory root → ⊥
