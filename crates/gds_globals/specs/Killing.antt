@@ -91,8 +91,8 @@ LeadsToKill draft p image =
     (file : List ℕ) → IsCommitted draft image file → (m : Globals) → StandsFor image m
     → StandsFor file (after m (kill p))
 
--- The draft of a KILL that takes something: a transaction number is left for it, few of its blocks are no maps, and with
--- it the image has no fault.
+-- The draft of a KILL that takes something: a transaction number is left for it, few of its blocks are no maps, and
+-- with it the image has no fault.
 pub record IsReadyKill (told : Option (List ℕ)) (h : Header) (p : Place) (draft : DraftState) : Type 0 where
   pub unspent : h.tn < 2 ^ 63
   pub header : draft.header ≡ record h { free = draft.header.free; master = draft.header.master }

@@ -8,7 +8,8 @@ use Rattle.gds_globals.specs.Killing.{name_node}
 use Rattle.gds_globals.proofs.NameLemmas.{bare_key}
 use Rattle.gds_globals.proofs.TakingLemmas.{drops_there, not_directory_there}
 use Rattle.gds_globals.proofs.taking.drop_global.Goals as goal
-use Rattle.gds_globals.proofs.taking.drop_global.Goals.{then-root-header-via-then-root-header, then-root-header-via-else-root-header+then-root-eq0}
+use Rattle.gds_globals.proofs.taking.drop_global.Goals.{then-root-header-via-then-root-header}
+use Rattle.gds_globals.proofs.taking.drop_global.Goals.{then-root-header-via-else-root-header+then-root-eq0}
 
 pub returns-then-root-header-clause-ends : goal.returns-then-root-header-clause-ends
 returns-then-root-header-clause-ends g c x tells d may =
