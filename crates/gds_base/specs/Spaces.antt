@@ -1,6 +1,6 @@
 -- Blocks that are taken from the free ones and given back, and a file that gets more of them.
-use Rattle.std.specs.Prelude.{◌≡◌, ◌≢◌, ◌*◌, ◌-◌, ◌≤◌, ◌<◌, ◌/◌, ◌%◌, ◌==◌, ℕ, Bool, true, false, not, List, IsTrue, min}
-use Rattle.std.specs.Prelude.{filter, length}
+use Rattle.std.specs.Prelude.{◌≡◌, ◌≢◌, ◌*◌, ◌-◌, ◌≤◌, ◌<◌, ◌/◌, ◌%◌, ◌==◌, ℕ, Bool, true, false, not, List, IsTrue}
+use Rattle.std.specs.Prelude.{filter, length, min}
 use Rattle.gds_bitmap.specs.Bitmap.{is_free_at, IsFirstFree, Marks, NoneFree}
 use Rattle.gds_bitmap.specs.declared.state.State.TheVariants.{Recycled}
 use Rattle.gds_draft.specs.Draft.{DraftState}

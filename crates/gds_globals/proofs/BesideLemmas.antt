@@ -1,6 +1,6 @@
 -- How many units a commit changes, maps left out.
 use Rattle.std.proofs.Common.{◌≡◌, ℕ, ◌+◌, ◌-◌, ◌%◌, ◌^◌, ◌<◌, ◌≤◌, ◌==◌, Bool, true, false, ◌&&◌, not, List, [], ◌∷◌}
-use Rattle.std.proofs.Common.{filter, length, None, Some, refl, sym, ap, subst, ◌∙◌, arith}
+use Rattle.std.proofs.Common.{filter, None, Some, refl, sym, ap, ◌∙◌, arith}
 use Rattle.std.specs.Prelude.{bytes_eq, if◌then◌else◌, take}
 use Rattle.std.proofs.lemmas.Bool.{and_right, cond-false, cond-true, eqb-true}
 use Rattle.gds_base.specs.Spaces.{blocks_beside_maps, is_beside_maps}

@@ -1,12 +1,11 @@
 -- A root that is given back, and the entry that leads to it taken out of the directory.
-use Rattle.std.proofs.Common.{◌≡◌, ℕ, ◌%◌, ◌==◌, ◌||◌, Bool, true, false, List, [], ◌∷◌, ◌++◌, None}
-use Rattle.std.proofs.Common.{refl, sym, ap, subst, ◌∙◌, arith}
+use Rattle.std.proofs.Common.{◌≡◌, ℕ, Bool, true, false, List, [], ◌∷◌}
+use Rattle.std.proofs.Common.{refl, sym, subst, ◌∙◌, arith}
 use Rattle.std.specs.Prelude.{IsTrue}
-use Rattle.std.proofs.lemmas.Bool.{and_from, false_from_ne_true, not_from_false, or_right}
+use Rattle.std.proofs.lemmas.Bool.{and_from, false_from_ne_true, not_from_false}
 use Rattle.m_key.specs.Key.{key_bytes, past_bytes}
 use Rattle.gds_base.specs.Spaces.{Recycles}
 use Rattle.gds_file.specs.Change.{items_outside}
-use Rattle.gds_file.specs.Free.{Frees}
 use Rattle.gds_file.specs.Maps.{has_block, is_busy}
 use Rattle.gds_file.specs.Reshape.{Reshapes}
 use Rattle.gds_file.proofs.FrameLemmas.{kept_equal, root_kept}
@@ -23,8 +22,8 @@ use Rattle.gds_splice.proofs.ImageLemmas.{image_of}
 use Rattle.gds_tree.specs.Keeps.{IsImage}
 use Rattle.gds_tree.specs.Lawful.{IsTreeNumber}
 use Rattle.gds_tree.proofs.PartLemmas.{numbered}
-use Rattle.gds_remove.specs.Killed.{CannotKill, HasKilled, KillsIn, MayKill, items_beside}
-use Rattle.gds_globals.specs.Killing.{DropsGlobal, MayDrop, name_node}
+use Rattle.gds_remove.specs.Killed.{HasKilled, KillsIn, MayKill, items_beside}
+use Rattle.gds_globals.specs.Killing.{MayDrop, name_node}
 use Rattle.gds_globals.specs.Node.{name_key}
 use Rattle.gds_globals.proofs.NameLemmas.{bare_key}
 

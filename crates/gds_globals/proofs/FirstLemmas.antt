@@ -1,5 +1,5 @@
 -- What the first entry from a key on tells of the items of the key's node and of its descendants.
-use Rattle.std.proofs.Common.{◌≡◌, ℕ, Bool, true, false, List, Option, None, refl, subst}
+use Rattle.std.proofs.Common.{◌≡◌, ℕ, Bool, true, false, List, Option, None, subst}
 use Rattle.std.specs.Prelude.{All}
 use Rattle.std.specs.Option.{ForSome}
 use Rattle.std.specs.declared.ops.Bound.TheVariants.{Included}

@@ -1,6 +1,6 @@
 -- How a KILL ends: with its draft, or with the commit of it.
-use Rattle.std.proofs.Common.{◌≡◌, ◌≢◌, ℕ, ◌==◌, ◌^◌, ◌<◌, ◌≤◌, Option, None, Some, Result, Ok, Err, refl, sym, ap, subst}
-use Rattle.std.proofs.Common.{◌∙◌, arith, inl, List, true, false}
+use Rattle.std.proofs.Common.{◌≡◌, ℕ, ◌^◌, ◌<◌, ◌≤◌, Option, None, Some, Result, Ok, Err, refl, sym, ap, subst}
+use Rattle.std.proofs.Common.{◌∙◌, arith, inl, List}
 use Rattle.std.specs.Prelude.{◌↔◌, IsErrAnd, MatchBool}
 use Rattle.std.specs.Option.{ForSome}
 use Rattle.std.proofs.lemmas.Bool.{eq-eqb, ne_eqb}
@@ -18,13 +18,12 @@ use Rattle.gds_draft.specs.Laws.{IsDraftOf}
 use Rattle.gds_header.specs.declared.header.Header.{Header}
 use Rattle.gds_header.specs.Fields.{fields_of}
 use Rattle.gds_sound.specs.Questions.{data_of}
-use Rattle.gds_sound.specs.Stands.{StandsFor}
 use Rattle.gds_units.specs.Durable.{KeptAllOrStored}
 use Rattle.gds_units.specs.Held.{IsRecoverable}
 use Rattle.gds_units.specs.Reading.{OnlyRead}
-use Rattle.gds_units.specs.State.{UnitsState, WhereTold, image_of}
+use Rattle.gds_units.specs.State.{UnitsState, WhereTold}
 use Rattle.gds_units.proofs.DurableLemmas.{found_before}
-use Rattle.m_key.specs.Globals.{Globals, Place}
+use Rattle.m_key.specs.Globals.{Place}
 use Rattle.gds_globals.specs.Kill.{EndsDraftingKill, EndsKilling, IsAfterKill, IsNothingThere, Kills}
 use Rattle.gds_globals.specs.Killing.{IsReadyKill}
 use Rattle.gds_globals.proofs.BesideLemmas.{differs_beside, header_after_kill}
@@ -146,3 +145,13 @@ nothing_kept told moment counts left_since old mid read found c tells image is =
     inl (λ d left.
     let before = read.crash.stays d left in
     found_before moment left_since old.host d (found c tells d before) before)
+
+-- ---- which error it is
+
+pub same_error : {U : Type 0} (result : Result U BaseError) (e x : BaseError) → IsErrAnd result (λ y. y ≡ e)
+    → result ≡ Err x → e ≡ x
+same_error {U} result e x exit is =
+    let found = err_from_is_err_and result exit in
+    let fails : BaseError → Result U BaseError = λ y. Err y in
+    let same : fails e ≡ fails x = sym (found.1 ∙ ap Err found.2) ∙ is in
+    cc

@@ -1,16 +1,13 @@
 -- What KILL in the tree of a global makes of a sound file.
-use Rattle.std.proofs.Common.{◌≡◌, ◌≢◌, ℕ, ◌<◌, ◌%◌, ◌&&◌, ◌||◌, Bool, true, false, not, List, [], ◌∷◌, ◌++◌, filter}
-use Rattle.std.proofs.Common.{length, None, Some, Less, inl, inr, refl, sym, ap, subst, ◌∙◌, arith}
-use Rattle.std.specs.Prelude.{IsTrue, MatchBool, nat_eq}
-use Rattle.std.specs.List.{IsDistinct}
-use Rattle.std.proofs.lemmas.Bool.{and_from, cond-false, cond-true, eq-eqb, false_from_ne_true, ne_eqb, not_from_false}
+use Rattle.std.proofs.Common.{◌≡◌, ◌≢◌, ℕ, ◌<◌, ◌%◌, Bool, true, false, not, List, [], ◌∷◌, ◌++◌, filter}
+use Rattle.std.proofs.Common.{Less, inl, inr, refl, sym, ap, subst, ◌∙◌, arith}
+use Rattle.std.specs.Prelude.{IsTrue, nat_eq}
+use Rattle.std.proofs.lemmas.Bool.{and_from, cond-false, cond-true, eq-eqb, false_from_ne_true, not_from_false}
 use Rattle.std.proofs.lemmas.Bool.{or_left, or_right}
-use Rattle.std.proofs.lemmas.List.{append-nil}
 use Rattle.std.proofs.lemmas.List.Elements.{filter-append, recursion_from_All}
 use Rattle.m_key.specs.Globals.{Place}
-use Rattle.m_key.specs.Key.{key_bytes, past_bytes}
 use Rattle.m_key.specs.KeyParts.{name_part}
-use Rattle.m_key.specs.Node.{IsName, IsNode, IsSubscript}
+use Rattle.m_key.specs.Node.{IsName}
 use Rattle.gds_block.specs.Fields.{u32_at}
 use Rattle.gds_block.specs.Item.{Item}
 use Rattle.gds_file.specs.Change.{is_within, items_in, items_outside}
@@ -24,10 +21,10 @@ use Rattle.gds_file.proofs.KillLemmas.{kill_in_one_tree, kill_of_one_tree}
 use Rattle.gds_file.proofs.ReshapeLemmas.{has_append, reshapes_compose, reshapes_in_any_order, reshapes_with_more}
 use Rattle.gds_file.proofs.UseLemmas.{in_has, proper_block}
 use Rattle.gds_header.specs.Fields.{block_of, fields_of}
-use Rattle.gds_law.specs.Visit.{directory, directory_root}
+use Rattle.gds_law.specs.Visit.{directory_root}
 use Rattle.gds_law.proofs.MembershipLemmas.{IsIn, in_left, in_right}
 use Rattle.gds_law.proofs.RisingLemmas.{Rising, Rising-behind, not_below_itself, rises}
-use Rattle.gds_sound.specs.Sound.{IsSound, Tree, root_of, tree_at}
+use Rattle.gds_sound.specs.Sound.{IsSound, Tree, root_of}
 use Rattle.gds_sound.proofs.BlockLemmas.{level_at}
 use Rattle.gds_sound.proofs.CountLemmas.{count_append}
 use Rattle.gds_sound.proofs.KeyLemmas.{right_keys}
@@ -39,13 +36,13 @@ use Rattle.gds_splice.specs.Parted.{TreeBecomes}
 use Rattle.gds_splice.proofs.ImageLemmas.{image_of}
 use Rattle.gds_splice.proofs.CountedLemmas.{has_same}
 use Rattle.gds_tree.specs.Lawful.{IsTreeNumber}
-use Rattle.gds_remove.specs.Killed.{IsEmptied, KillsIn}
-use Rattle.gds_globals.specs.Killing.{DropsGlobal, HasTrees, IsSoundWithout, MayDrop, name_node}
-use Rattle.gds_globals.specs.Node.{IsRootOf, name_key}
+use Rattle.gds_remove.specs.Killed.{IsEmptied}
+use Rattle.gds_globals.specs.Killing.{HasTrees, IsSoundWithout, MayDrop, name_node}
+use Rattle.gds_globals.specs.Node.{name_key}
 use Rattle.gds_globals.proofs.FileLemmas.{entry_key, entry_of}
 use Rattle.gds_globals.proofs.NameLemmas.{bare_key, bare_right, name_of_key}
 use Rattle.gds_globals.proofs.NewGlobalLemmas.{busy_directory, lawful_file}
-use Rattle.gds_globals.proofs.OwnTreeLemmas.{OwnTree, apart, may_kill, not_directory, own_root, own_tree, points}
+use Rattle.gds_globals.proofs.OwnTreeLemmas.{OwnTree, apart, own_root, points}
 use Rattle.gds_globals.proofs.WithinLemmas.{leads_itself}
 
 filter_all : {A : Type 0} (test : A → Bool) (xs : List A) → ((x : A) → IsIn xs x → test x ≡ true) → filter test xs ≡ xs

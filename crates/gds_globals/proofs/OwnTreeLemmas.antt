@@ -1,13 +1,10 @@
 -- The tree of a node's global in a sound file, and the items there of the node and its descendants.
-use Rattle.std.proofs.Common.{◌≡◌, ◌≢◌, ℕ, ◌<◌, Bool, true, false, List, [], ◌∷◌, ◌++◌, length, None, Some}
-use Rattle.std.proofs.Common.{inl, inr, refl, sym, ap, subst, ◌∙◌, arith}
-use Rattle.std.specs.Prelude.{Contains, IsTrue, nat_eq}
-use Rattle.std.specs.List.{IsDistinct}
-use Rattle.std.proofs.lemmas.Bool.{false_from_ne_true, or_left}
+use Rattle.std.proofs.Common.{◌≡◌, ◌≢◌, ℕ, ◌<◌, true, false, List, ◌∷◌, ◌++◌, length, None, Some}
+use Rattle.std.proofs.Common.{refl, sym, ap, subst, ◌∙◌, arith}
+use Rattle.std.specs.Prelude.{Contains, IsTrue}
+use Rattle.std.proofs.lemmas.Bool.{false_from_ne_true}
 use Rattle.std.proofs.lemmas.List.Elements.{recursion_from_All}
 use Rattle.m_key.specs.Globals.{Place}
-use Rattle.m_key.specs.Key.{key_bytes}
-use Rattle.m_key.specs.KeyEnd.{IsKey}
 use Rattle.m_key.specs.KeyParts.{name_part}
 use Rattle.gds_block.specs.Fields.{u32_at}
 use Rattle.gds_block.specs.Item.{Item}
@@ -15,12 +12,11 @@ use Rattle.gds_file.specs.Change.{is_within, items_in}
 use Rattle.gds_file.specs.Maps.{has_block}
 use Rattle.gds_file.proofs.ChangeLemmas.{items_parted, within_leads}
 use Rattle.gds_file.proofs.FileLemmas.{blocks_in, with_global}
-use Rattle.gds_file.proofs.ReshapeLemmas.{has_append}
 use Rattle.gds_file.proofs.UseLemmas.{in_has}
 use Rattle.gds_header.specs.Fields.{fields_of}
 use Rattle.gds_law.specs.Visit.{directory_root}
 use Rattle.gds_law.proofs.MembershipLemmas.{Contains-from_in, IsIn, in_from_Contains, in_left, in_right}
-use Rattle.gds_sound.specs.Sound.{IsSound, Tree, root_of, tree_at}
+use Rattle.gds_sound.specs.Sound.{Tree, root_of, tree_at}
 use Rattle.gds_sound.proofs.BlockLemmas.{level_at}
 use Rattle.gds_sound.proofs.CountLemmas.{count, count_append}
 use Rattle.gds_sound.proofs.KeyLemmas.{right_keys}
@@ -33,12 +29,12 @@ use Rattle.gds_splice.proofs.ImageLemmas.{image_of}
 use Rattle.gds_tree.specs.Keeps.{IsImage}
 use Rattle.gds_tree.specs.Lawful.{IsTreeNumber}
 use Rattle.gds_remove.specs.Killed.{MayKill}
-use Rattle.gds_globals.specs.Killing.{HasNoneWithin, HasTrees, HasWithin, IsRootWithin, TellsWithin}
+use Rattle.gds_globals.specs.Killing.{HasNoneWithin, HasTrees, HasWithin}
 use Rattle.gds_globals.specs.Node.{IsRootOf, name_key}
 use Rattle.gds_globals.proofs.CarryLemmas.{own_block}
 use Rattle.gds_globals.proofs.FileLemmas.{entry_key, entry_name, entry_of, entry_points, one_item, some_same}
 use Rattle.gds_globals.proofs.NewGlobalLemmas.{busy_file, lawful_file}
-use Rattle.gds_globals.proofs.SetLemmas.{PartsAt, parts_at}
+use Rattle.gds_globals.proofs.SetLemmas.{parts_at}
 
 module _ (file : List ℕ) (d : Tree) (globals : List Tree) (has : HasTrees file d globals) (p : Place) where
   image : IsImage file

@@ -52,7 +52,7 @@ module _ (told : Option (List ℕ)) (draft : DraftState) (p : Place) where
     abbrev has_from : (image : List ℕ) (is : told ≡ Some image) (d : Tree) (globals : List Tree)
         (has : HasTrees (drafted draft image) d globals)
         → HasTreeFrom (drafted draft image) (root_of (entry_of p (own image is d globals has).rest)) root None
-            (Included key)
+        (Included key)
     has_from image is d globals has = record {
       block_is = (own image is d globals has).leads;
       level_is = refl;

@@ -1,6 +1,6 @@
 -- A KILL in the image with a draft.
-use Rattle.std.proofs.Common.{◌≡◌, ◌≢◌, ℕ, ◌==◌, Bool, true, false, List, [], ◌∷◌, Option, None, Some, Result, Ok, Err}
-use Rattle.std.proofs.Common.{sym, subst, ap, ◌∙◌, refl}
+use Rattle.std.proofs.Common.{◌≡◌, ℕ, Bool, true, false, List, Option, Some, Result}
+use Rattle.std.proofs.Common.{subst, ◌∙◌, refl}
 use Rattle.std.specs.Prelude.{MatchBool, OnOk}
 use Rattle.std.specs.Option.{ForSome}
 use Rattle.std.proofs.lemmas.Bool.{ne_eqb}
@@ -12,12 +12,10 @@ use Rattle.gds_base.specs.Spaces.{Recycles}
 use Rattle.gds_block.specs.Fields.{u32_at}
 use Rattle.gds_draft.specs.Draft.{DraftState}
 use Rattle.gds_draft.specs.Drafted.{drafted}
-use Rattle.gds_file.specs.Change.{items_outside}
 use Rattle.gds_file.specs.FileLaws.{IsLawful}
 use Rattle.gds_sound.specs.Sound.{Tree, root_of}
-use Rattle.gds_splice.specs.Parted.{TreeBecomes}
-use Rattle.gds_remove.specs.Killed.{CannotKill, HasKilled, IsEmptied, IsEmptyDirectory, KillsIn, items_beside}
-use Rattle.gds_globals.specs.Killing.{CannotDrop, DropsGlobal, HasTrees, IsSoundWithout, MayDrop, name_node}
+use Rattle.gds_remove.specs.Killed.{CannotKill, HasKilled, IsEmptied, IsEmptyDirectory, KillsIn}
+use Rattle.gds_globals.specs.Killing.{CannotDrop, DropsGlobal, HasTrees, IsSoundWithout, name_node}
 use Rattle.gds_globals.specs.Node.{IsRootOf, name_key}
 use Rattle.gds_globals.proofs.DropLemmas.{dropped, may_kill_directory}
 use Rattle.gds_globals.proofs.FileLemmas.{entry_of}
@@ -52,7 +50,7 @@ module _ (told : Option (List ℕ)) (old mid : DraftState) (p : Place) (root : �
         → (has : HasTrees (drafted old image) d globals)
         → (own : OwnTree (drafted old image) d globals has p root) → (b : Bool) → empty ≡ b
         → HasKilled (drafted old image) (drafted mid image) (root_of (entry_of p own.rest)) own.tree
-            (key_bytes p.node) (past_bytes p.node) b
+        (key_bytes p.node) (past_bytes p.node) b
     left_there image is d globals has own b is_b =
         let v = root_of (entry_of p own.rest) in
         subst (HasKilled (drafted old image) (drafted mid image) v own.tree (key_bytes p.node) (past_bytes p.node))

@@ -1,5 +1,5 @@
 -- Whether a node or a descendant has a value: of a map, and of the items of a sound file.
-use Rattle.std.proofs.Common.{◌≡◌, ◌≢◌, ℕ, ◌+◌, ◌<◌, ◌≤◌, Bool, true, false, not, ◌&&◌, ◌||◌, List, [], ◌∷◌, ◌++◌}
+use Rattle.std.proofs.Common.{◌≡◌, ◌≢◌, ℕ, ◌+◌, Bool, true, false, not, ◌&&◌, ◌||◌, List, [], ◌∷◌, ◌++◌}
 use Rattle.std.proofs.Common.{length, map, Ordering, Equal, Greater, Less, inl, inr, refl, sym, ap, subst, ◌∙◌, arith}
 use Rattle.std.specs.Prelude.{All, Contains, if◌then◌else◌, nat_lt}
 use Rattle.std.specs.FinMap.{entries}
@@ -10,21 +10,21 @@ use Rattle.std.proofs.lemmas.Cmp.{tied_itself}
 use Rattle.std.proofs.lemmas.List.{append-nil, length-append}
 use Rattle.std.proofs.lemmas.List.Elements.{recursion_from_All}
 use Rattle.m_key.specs.Collation.{Leads, reference_cmp}
-use Rattle.m_key.specs.Globals.{Globals, Place, is_led, place_cmp}
+use Rattle.m_key.specs.Globals.{Globals, Place, is_led}
 use Rattle.m_key.specs.Key.{AtMost, Below, key_bytes, past_bytes}
-use Rattle.m_key.specs.Node.{Node, NodeSubscript}
+use Rattle.m_key.specs.Node.{Node}
 use Rattle.m_key.proofs.KeyLemmas as keys
 use Rattle.m_key.proofs.NumberLemmas.{numbers}
-use Rattle.m_key.proofs.PlaceLemmas.{place_same, place_total, same_place}
+use Rattle.m_key.proofs.PlaceLemmas.{place_same, place_total}
 use Rattle.gds_block.specs.Item.{Item}
 use Rattle.gds_file.specs.Change.{is_within, items_in}
 use Rattle.gds_file.proofs.ChangeLemmas.{leads_within, within_leads}
 use Rattle.gds_law.specs.Record.{is_below}
 use Rattle.gds_law.proofs.MembershipLemmas.{Contains-from_in, IsIn, in_either, in_from_Contains, in_map, in_map_from}
-use Rattle.gds_law.proofs.MembershipLemmas.{in_left, in_right}
+use Rattle.gds_law.proofs.MembershipLemmas.{in_right}
 use Rattle.gds_law.proofs.RisingLemmas.{Rising, Rising-behind}
 use Rattle.gds_sound.specs.Questions.{data_of, is_under, places_of}
-use Rattle.gds_sound.specs.Sound.{IsSound, Tree}
+use Rattle.gds_sound.specs.Sound.{Tree}
 use Rattle.gds_sound.specs.Stands.{StandsFor}
 use Rattle.gds_sound.proofs.OrderLemmas.{cmp, cmp_total, key_cmp}
 use Rattle.gds_sound.proofs.PairLemmas.{Entry, item_of, readings_agree}

@@ -29,8 +29,8 @@ changed_beside_maps old new =
     (if bytes_eq (take 8192 old) (take 8192 new) then 0 else 1)
     + length (filter (is_changed_beside_maps old new) (range_with_len 0 (fields_of old).total))
 
--- The file stands for the map after the KILL, and for the change a transaction number was left. At most 64 units differ,
--- maps left out.
+-- The file stands for the map after the KILL, and a transaction number was left for the change. At most 64 units
+-- differ, maps left out.
 pub record Kills (p : Place) (before file : List ℕ) (m : Globals) : Type 0 where
   pub unspent : (fields_of before).tn < 2 ^ 63
   pub stands : StandsFor file (after m (kill p))

@@ -2,7 +2,6 @@
 use Rattle.std.specs.Prelude.{◌≡◌, ◌<◌, ◌^◌, ◌≤◌, ℕ, Bool, true, false, IsTrue, All, Contains, List, [], ◌∷◌, Option}
 use Rattle.std.specs.Prelude.{None, Some}
 use Rattle.std.specs.Option.{ForSome}
-use Rattle.gds_base.specs.Drafting.{IsDraftFor}
 use Rattle.gds_base.specs.Faultless.{IsFaultless}
 use Rattle.gds_base.specs.Spaces.{blocks_beside_maps}
 use Rattle.gds_block.specs.Item.{Item}
@@ -79,7 +78,7 @@ abbrev pub DropsGlobal : ℕ → List ℕ → List ℕ → List ℕ → Type 0
 DropsGlobal root name before after =
     (directory : Tree) → MayDrop before directory root
     → TreeBecomes before after directory_root (root ∷ directory.blocks)
-        (items_outside (name_node name) directory.items)
+    (items_outside (name_node name) directory.items)
 
 abbrev pub CannotDrop : ℕ → List ℕ → Type 0
 CannotDrop root file = (directory : Tree) → MayDrop file directory root → ⊥
@@ -92,8 +91,8 @@ LeadsToKill draft p image =
     (file : List ℕ) → IsCommitted draft image file → (m : Globals) → StandsFor image m
     → StandsFor file (after m (kill p))
 
--- The draft of a KILL that takes something: a transaction number is left for it, few of its blocks are no maps, and with
--- it the image has no fault.
+-- The draft of a KILL that takes something: a transaction number is left for it, few of its blocks are no maps, and
+-- with it the image has no fault.
 pub record IsReadyKill (told : Option (List ℕ)) (h : Header) (p : Place) (draft : DraftState) : Type 0 where
   pub unspent : h.tn < 2 ^ 63
   pub header : draft.header ≡ record h { free = draft.header.free; master = draft.header.master }

@@ -1,4 +1,4 @@
-use Rattle.std.proofs.Common.{sym, subst, ◌≤◌}
+use Rattle.std.proofs.Common.{ℕ, sym, subst, ◌≤◌}
 use Rattle.gds_draft.specs.Draft.{DraftState}
 use Rattle.gds_base.specs.Spaces.{blocks_beside_maps}
 use Rattle.gds_base.proofs.BesideLemmas.{map_put}
@@ -6,6 +6,7 @@ use Rattle.gds_base.proofs.spaces.put_map.Goals as goal
 
 pub returns-clause-maps : goal.returns-clause-maps
 returns-clause-maps c =
-    subst (λ (d : DraftState). blocks_beside_maps d ≤ blocks_beside_maps c.args.draft.now) (sym c.put_header.ensures.put)
-    (subst (λ (d : DraftState). blocks_beside_maps d ≤ blocks_beside_maps c.args.draft.now) (sym c.in_ok-put_vec.ensures.put)
+    let before : ℕ = blocks_beside_maps c.args.draft.now in
+    subst (λ (d : DraftState). blocks_beside_maps d ≤ before) (sym c.put_header.ensures.put)
+    (subst (λ (d : DraftState). blocks_beside_maps d ≤ before) (sym c.in_ok-put_vec.ensures.put)
     (map_put c.args.draft.now c.args.group c.args.map.items))

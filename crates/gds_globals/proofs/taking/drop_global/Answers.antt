@@ -1,15 +1,15 @@
-use Rattle.std.proofs.Common.{rules, ◌≡◌, ◌%◌, ◌∙◌, ℕ, Bool, ap, sym, subst, arith}
+use Rattle.std.proofs.Common.{◌∙◌, Bool, ap, sym, arith}
 use Rattle.gds_header.specs.declared.header.Header.{Header}
 use Rattle.gds_splice.proofs.DraftingLemmas.{ends_exit, same_image}
 use Rattle.gds_splice.proofs.EntriesPutLemmas.{drafted_fields}
 use Rattle.gds_units.specs.State.{image_of}
 use Rattle.m_key.specs.Reference.{name_bytes}
 use Rattle.gds_globals.specs.Killing.{name_node}
-use Rattle.gds_globals.specs.Node.{name_key}
 use Rattle.gds_globals.proofs.NameLemmas.{bare_key}
 use Rattle.gds_globals.proofs.TakingLemmas.{drops_there, not_directory_there}
 use Rattle.gds_globals.proofs.taking.drop_global.Goals as goal
-use Rattle.gds_globals.proofs.taking.drop_global.Goals.{then-root-header-via-then-root-header, then-root-header-via-else-root-header+then-root-eq0}
+use Rattle.gds_globals.proofs.taking.drop_global.Goals.{then-root-header-via-then-root-header}
+use Rattle.gds_globals.proofs.taking.drop_global.Goals.{then-root-header-via-else-root-header+then-root-eq0}
 
 pub returns-then-root-header-clause-ends : goal.returns-then-root-header-clause-ends
 returns-then-root-header-clause-ends g c x tells d may =

@@ -1,9 +1,8 @@
-use Rattle.std.proofs.Common.{rules, ◌≡◌, Bool, true, false, List, sym, ap, ◌∙◌}
+use Rattle.std.proofs.Common.{rules, ◌≡◌, true, false, sym, ap, ◌∙◌}
 use Rattle.std.specs.Ordering.{is_lt}
 use Rattle.gds_law.specs.Record.{is_below}
 use Rattle.gds_pack.specs.Entry.{item}
 use Rattle.gds_units.specs.State.{image_of}
-use Rattle.m_key.specs.Key.{key_bytes, past_bytes}
 use Rattle.gds_globals.proofs.FirstLemmas.{first_found, none_found}
 use Rattle.gds_globals.proofs.taking.has_within.Goals as goal
 

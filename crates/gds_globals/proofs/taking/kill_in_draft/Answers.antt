@@ -1,9 +1,8 @@
-use Rattle.std.proofs.Common.{rules, ◌≡◌, ◌∙◌, Bool, true, false, List, ℕ, arith}
+use Rattle.std.proofs.Common.{rules, ◌≡◌, ◌∙◌, Bool, true, false}
 use Rattle.host_model.proofs.FailureLemmas.{NeverFell-refl}
 use Rattle.gds_splice.proofs.DraftingLemmas.{ends_exit, same_image}
 use Rattle.gds_units.specs.State.{image_of}
 use Rattle.m_key.specs.Reference.{node_of, place_of}
-use Rattle.gds_remove.proofs.WritesLemmas.{OnlyWrites-then, OnlyWrites-weaker}
 use Rattle.gds_globals.proofs.EndingLemmas.{read_last}
 use Rattle.gds_globals.proofs.TakingLemmas.{cannot_drop, cannot_there, none_left, some_left}
 use Rattle.gds_globals.proofs.taking.kill_in_draft.Goals as goal

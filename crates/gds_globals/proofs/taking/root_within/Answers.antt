@@ -1,4 +1,4 @@
-use Rattle.std.proofs.Common.{rules, ◌≡◌, ◌≤◌, List, ℕ, Bool, true, false, Option, sym, subst, ◌∙◌, length}
+use Rattle.std.proofs.Common.{rules, ◌≡◌, ℕ, Bool, true, false, Option}
 use Rattle.host_model.proofs.FailureLemmas.{NeverFell-refl}
 use Rattle.gds_splice.proofs.DraftingLemmas.{ends_exit, same_image}
 use Rattle.gds_units.specs.State.{image_of}
