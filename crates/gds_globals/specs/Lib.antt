@@ -4,3 +4,4 @@ pub mod SetLaws
 pub mod Planting
 pub mod Ready
 pub mod Deep
+pub mod Questions

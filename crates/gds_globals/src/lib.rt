@@ -5,11 +5,13 @@ mod asking;
 mod committing;
 mod laws;
 mod planting;
+mod questions;
 mod ready;
 mod setting;
 
 pub use asking::get;
 pub use committing::set;
 pub use laws::item_of_global;
+pub use questions::{Next, data, order, query};
 pub use ready::draft_set;
 pub use setting::set_in_draft;
