@@ -3,6 +3,7 @@ pub mod PlaceLemmas
 pub mod MapLemmas
 pub mod ReadingLemmas
 pub mod PutLemmas
+pub mod BesideLemmas
 pub mod PlanLemmas
 pub mod CommitLemmas
 pub mod RoomLemmas

@@ -1,7 +1,10 @@
 -- Blocks that are taken from the free ones and given back, and a file that gets more of them.
-use Rattle.std.specs.Prelude.{◌≡◌, ◌≢◌, ◌*◌, ◌-◌, ◌≤◌, ◌<◌, ◌/◌, ◌%◌, ℕ, Bool, true, false, List, IsTrue, min}
+use Rattle.std.specs.Prelude.{◌≡◌, ◌≢◌, ◌*◌, ◌-◌, ◌≤◌, ◌<◌, ◌/◌, ◌%◌, ◌==◌, ℕ, Bool, true, false, not, List, IsTrue, min}
+use Rattle.std.specs.Prelude.{filter, length}
 use Rattle.gds_bitmap.specs.Bitmap.{is_free_at, IsFirstFree, Marks, NoneFree}
 use Rattle.gds_bitmap.specs.declared.state.State.TheVariants.{Recycled}
+use Rattle.gds_draft.specs.Draft.{DraftState}
+use Rattle.gds_epoch.specs.Waiting.{WaitingUnit}
 use Rattle.gds_header.specs.declared.header.Header.{Header}
 use Rattle.gds_header.specs.Fields.{block_of}
 use Rattle.gds_header.specs.Kinds.{groups_of, has_free}
@@ -53,3 +56,11 @@ pub record IsFirstPlace (h : Header) (map : List ℕ) (group place : ℕ) : Type
 abbrev pub HasFreeBelow : List ℕ → ℕ → Bool → Type 0
 HasFreeBelow map present true = (place : ℕ) × (place < present) × IsTrue (is_free_at map place)
 HasFreeBelow map present false = NoneFree map present
+
+-- A unit is that of a block that is no map: unit n + 1 is block n.
+abbrev pub is_beside_maps : WaitingUnit → Bool
+is_beside_maps w = not ((w.unit - 1) % 512 == 0)
+
+-- how many blocks a draft has that are no maps
+abbrev pub blocks_beside_maps : DraftState → ℕ
+blocks_beside_maps draft = length (filter is_beside_maps draft.units)

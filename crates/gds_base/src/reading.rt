@@ -2,6 +2,7 @@ ghost use Rattle.std.specs.Prelude.{◌≡◌, ◌+◌, ◌<◌, ◌≤◌, Err,
 ghost use Rattle.std.specs.Borrow.{sem};
 ghost use Rattle.std.specs.Io.BufRead.{Rests};
 ghost use Rattle.std.specs.Option.{ForSome};
+ghost use Rattle.gds_base.specs.Spaces.{blocks_beside_maps};
 ghost use Rattle.gds_base.specs.Drafting.{Drafts, IsDraftFor, WithDraft};
 ghost use Rattle.gds_base.specs.Ending.{EndsLending, EndsReading};
 ghost use Rattle.gds_base.specs.contracts.base.Base.{the_row};
@@ -66,6 +67,7 @@ impl<H: Host> Base<H> {
             PutsBlock before after n bytes.now)) }
         ensures units { OnOk result (draft.new ≡ with_block draft.old n bytes.now) }
         ensures err { OnErr result ((result ≡ Err BaseError.Memory) × (draft.new ≡ draft.old)) }
+        ensures beside { blocks_beside_maps draft.new ≤ blocks_beside_maps draft.old + 1 }
     {
         self.hold_draft(draft);
         Ok(draft.put(alloc, n, bytes)?)

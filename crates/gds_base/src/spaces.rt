@@ -1,7 +1,7 @@
-ghost use Rattle.std.specs.Prelude.{◌≡◌, ◌≢◌, ◌*◌, ◌+◌, ◌<◌, ◌%◌, None, IfOk, OnErr, OnOk, length};
+ghost use Rattle.std.specs.Prelude.{◌≡◌, ◌≢◌, ◌*◌, ◌+◌, ◌<◌, ◌≤◌, ◌%◌, None, IfOk, OnErr, OnOk, length};
 ghost use Rattle.gds_base.specs.Drafting.{Drafts, IsDraftFor, OnlyDrafts, WithDraft};
 ghost use Rattle.gds_base.specs.Ending.{EndsReading};
-ghost use Rattle.gds_base.specs.Spaces.{IsFirstPlace, Recycles, TakesLeast};
+ghost use Rattle.gds_base.specs.Spaces.{IsFirstPlace, Recycles, TakesLeast, blocks_beside_maps};
 ghost use Rattle.gds_draft.specs.Draft.{IsDraft, with_block};
 ghost use Rattle.gds_file.specs.FileLaws.{IsLawful};
 ghost use Rattle.gds_law.specs.Maps.{map_of};
@@ -35,6 +35,7 @@ impl<H: Host> Base<H> {
         ensures within { IfOk result (λ n. (n < draft.old.header.total) × (n % 512 ≢ 0)) }
         ensures one { OnOk result (draft.old.header.free ≡ draft.new.header.free + 1) }
         ensures drafts { OnlyDrafts H.told H.moment H.failures H.left_since self.old self.new draft.old draft.new 1 }
+        ensures maps { blocks_beside_maps draft.new ≤ blocks_beside_maps draft.old }
         ensures ends { EndsReading (H.failures self.old.host) (H.failures self.new.host)
             (WithDraft self.old draft.old (λ file. IsLawful file → 0 < draft.old.header.free → ⊥)) result }
     {
@@ -61,6 +62,7 @@ impl<H: Host> Base<H> {
         requires no_map { n % 512 ≢ 0 }
         ensures freed { OnOk result (Drafts self.old draft.old draft.new (λ before after. Recycles before after n)) }
         ensures drafts { OnlyDrafts H.told H.moment H.failures H.left_since self.old self.new draft.old draft.new 1 }
+        ensures maps { blocks_beside_maps draft.new ≤ blocks_beside_maps draft.old }
         ensures ends { EndsReading (H.failures self.old.host) (H.failures self.new.host)
             (WithDraft self.old draft.old (λ file. IsLawful file → ⊥)) result }
     {
@@ -140,6 +142,7 @@ fn put_map(draft: &mut Draft, header: &Header, group: u32, map: Vec<u8>) -> Resu
     }) }
     ensures draft { OnOk result (IsDraft draft.new) }
     ensures err { OnErr result (draft.new ≡ draft.old) }
+    ensures maps { blocks_beside_maps draft.new ≤ blocks_beside_maps draft.old }
 {
     let _header = draft.header();
     draft.put_vec(512 * group, map)?;

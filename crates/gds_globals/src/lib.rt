@@ -3,6 +3,7 @@
 
 mod asking;
 mod committing;
+mod killing;
 mod laws;
 mod planting;
 mod questions;
@@ -11,6 +12,7 @@ mod setting;
 
 pub use asking::get;
 pub use committing::set;
+pub use killing::kill;
 pub use laws::item_of_global;
 pub use questions::{Next, data, order, query};
 pub use ready::draft_set;

@@ -1,4 +1,5 @@
 ghost use Rattle.std.specs.Prelude.{◌≡◌, ◌+◌, ◌<◌, ◌≤◌, Err, OnErr, OnOk, length};
+ghost use Rattle.gds_base.specs.Spaces.{blocks_beside_maps};
 ghost use Rattle.gds_base.specs.Drafting.{Drafts, IsDraftFor};
 ghost use Rattle.gds_base.specs.declared.error.BaseError.TheVariants.{Memory};
 ghost use Rattle.gds_pack.specs.Entry.{items};
@@ -29,6 +30,7 @@ pub fn put_entries<H: Host>(
     ensures put { OnOk result (Drafts base.now draft.old draft.new (λ before after.
         PutsEntries before after n level (items entries.now))) }
     ensures more { HasMore draft.old draft.new 1 }
+    ensures beside { blocks_beside_maps draft.new ≤ blocks_beside_maps draft.old + 1 }
     ensures err { OnErr result (result ≡ Err Memory) }
 {
     let mut room = Vec::from_elem(alloc, 0, base.header().block_size as usize)?;
@@ -54,6 +56,7 @@ fn put_packed<H: Host>(
     ensures put { OnOk result (Drafts base.now draft.old draft.new (λ before after.
         PutsEntries before after n level (items entries.now))) }
     ensures more { HasMore draft.old draft.new 1 }
+    ensures beside { blocks_beside_maps draft.new ≤ blocks_beside_maps draft.old + 1 }
     ensures err { OnErr result (result ≡ Err Memory) }
 {
     base.hold_draft(draft);
