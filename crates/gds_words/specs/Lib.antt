@@ -1,3 +1,4 @@
 pub mod Create
 pub mod Words
+pub mod Verb
 pub mod Script

@@ -5,6 +5,7 @@ mod create;
 mod laws;
 mod qualifier;
 mod script;
+mod verb;
 mod words;
 
 pub use laws::{one_request, written_request};

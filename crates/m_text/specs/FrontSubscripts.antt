@@ -2,9 +2,13 @@
 use Rattle.std.specs.Prelude.{◌≡◌, ℕ, ◌+◌, ◌<◌, ◌≤◌, ◌||◌, List, [], ◌∷◌, ◌++◌, length, map, min, IsTrue}
 use Rattle.std.specs.Char.{is_ascii_alphanumeric}
 use Rattle.std.specs.List.{AllByRecursion, prefix_len}
-use Rattle.m_key.specs.Node.{NodeSubscript, IsSubscript, spelled}
+use Rattle.m_key.specs.Node.{NodeSubscript, string, IsSubscript, spelled}
 use Rattle.m_text.specs.Grammar.{joined, Expression, expression_text, expression_bytes, IsExpression}
 use Rattle.m_text.specs.Front.{leads}
+
+-- the null subscript, which no node has
+abbrev pub null : NodeSubscript
+null = string []
 
 -- a subscript stands at the front of the text
 pub record StandsAt (text : List ℕ) (s : NodeSubscript) (rest : List ℕ) : Type 0 where

@@ -1,6 +1,5 @@
 -- The texts of values and references, by syntax trees, as ASCII codes: 34 is '"', 40 is '(', 41 is ')', 44 is ',', 94
--- is
--- '^' and 95 is '_'.
+-- is '^' and 95 is '_'.
 use Rattle.std.specs.Prelude.{◌≡◌, ℕ, ◌+◌, ◌-◌, ◌*◌, ◌==◌, ◌<◌, ◌≤◌, List, [], ◌∷◌, ◌++◌, length, map, flat_map, fold}
 use Rattle.std.specs.Prelude.{IsTrue, codes, if◌then◌else◌}
 use Rattle.std.specs.Char.{is_ascii_digit}
@@ -96,3 +95,13 @@ pub record IsReferenceText (text : List ℕ) (node : Node) : Type 0 where
   pub right : AllByRecursion IsExpression subscripts
   pub written : reference_form node.name (map expression_text subscripts) ≡ text
   pub meant : map expression_bytes subscripts ≡ map spelled node.subscripts
+
+-- The text is the node's with one more subscript, the null one: the empty string, however it is written. With it there
+-- are 31 subscripts at most.
+pub record IsNullReferenceText (text : List ℕ) (node : Node) : Type 0 where
+  pub is_node : IsNode node
+  pub fewer : length node.subscripts < 31
+  pub subscripts : List Expression
+  pub right : AllByRecursion IsExpression subscripts
+  pub written : reference_form node.name (map expression_text subscripts) ≡ text
+  pub meant : map expression_bytes subscripts ≡ map spelled node.subscripts ++ [] ∷ []

@@ -1,5 +1,6 @@
 -- The one text in which a value or a reference is written.
-use Rattle.std.specs.Prelude.{ℕ, ◌+◌, ◌/◌, ◌%◌, Bool, ◌&&◌, nat_lt, nat_le, List, [], ◌∷◌, map, flat_map, if◌then◌else◌}
+use Rattle.std.specs.Prelude.{ℕ, ◌+◌, ◌/◌, ◌%◌, Bool, ◌&&◌, nat_lt, nat_le, List, [], ◌∷◌, ◌++◌, map, flat_map}
+use Rattle.std.specs.Prelude.{codes, if◌then◌else◌}
 use Rattle.m_number.specs.Text.{text_of}
 use Rattle.m_key.specs.Node.{Node, NodeSubscript, number, string}
 use Rattle.m_text.specs.Grammar.{joined, c, Piece, quoted, coded, piece_text, reference_form}
@@ -50,3 +51,7 @@ subscript_text (string text) = value_text text
 
 unfoldable pub reference_text : Node → List ℕ
 reference_text node = reference_form node.name (map subscript_text node.subscripts)
+
+-- the same with the null subscript behind those of the node
+unfoldable pub null_reference_text : Node → List ℕ
+null_reference_text node = reference_form node.name (map subscript_text node.subscripts ++ codes "\"\"" ∷ [])

@@ -38,7 +38,7 @@ pub fn read_reference(alloc: Global, text: &[u8]) -> Result<Option<(Reference, u
 }
 
 /// The longest name at the front of the text, and the text behind it.
-fn read_name(text: &[u8]) -> Option<(Name, &[u8])>
+pub(crate) fn read_name(text: &[u8]) -> Option<(Name, &[u8])>
     ensures found { IfSome result (λ found. text.now ≡ name_bytes found.0 ++ found.1.now) }
     ensures longest { IfSome result (λ found. length (name_bytes found.0) ≡ longest_name text.now) }
     ensures none { IfNone result ((name rest : List ℕ) → IsName name → text.now ≡ name ++ rest → ⊥) }

@@ -44,7 +44,7 @@ pub(crate) fn read_subscripts(
 }
 
 /// The subscript at the front of the text, and the text behind it. What `string` holds doesn't matter.
-fn read_subscript<'a>(
+pub(crate) fn read_subscript<'a>(
     alloc: Global,
     text: &'a [u8],
     string: &mut Vec<u8>,
