@@ -1,11 +1,12 @@
-//! A script of SETs, GETs and epochs, answered line by line on a database.
+//! A script of changes, questions and epochs, answered line by line on a database.
 #![tactic(auto)]
 
 mod call;
+mod change;
 mod error;
 mod line;
 mod lines;
-mod node;
+mod question;
 mod session;
 
 pub use call::{Ran, run};
