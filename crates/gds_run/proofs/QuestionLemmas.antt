@@ -1,10 +1,9 @@
 -- What questions about a node are answered.
-use Rattle.std.proofs.Common.{◌≡◌, ℕ, ◌<◌, Bool, false, ltb, List, length, Option, None, Some, MatchBool, arith, refl}
-use Rattle.std.proofs.Common.{sym, ap, subst, ◌∙◌, le-ltb, Err, Ok}
+use Rattle.std.proofs.Common.{◌≡◌, ℕ, ◌<◌, Bool, false, List, length, Option, MatchBool, arith, refl}
+use Rattle.std.proofs.Common.{sym, ap, subst, le-ltb, Err, Ok}
 use Rattle.std.specs.Option.{ForSome}
 use Rattle.m_key.specs.Globals.{Place}
 use Rattle.m_key.specs.Key.{key_bytes}
-use Rattle.m_key.specs.Node.{Node}
 use Rattle.gds_header.specs.Fields.{fields_of}
 use Rattle.gds_header.specs.declared.header.Header.{Header}
 use Rattle.gds_sound.specs.Questions as questions

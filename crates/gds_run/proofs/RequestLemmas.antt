@@ -1,5 +1,4 @@
 -- Changes and questions ask for no epoch.
-use Rattle.gds_words.specs.Script.{Request}
 use Rattle.gds_script.specs.declared.answer.Answer.{Answer}
 use Rattle.gds_script.specs.Script.{Answers, State}
 use Rattle.gds_script.proofs.EpochLemmas.{AsksOther, asked_no_epoch}

@@ -4,7 +4,7 @@ use Rattle.std.specs.Prelude.{IfErr, IfOk, OnOk, OnSome, Option, None, Some, Res
 use Rattle.host_model.specs.Failures.{Rose}
 use Rattle.host_model.specs.Told.{TellsOn}
 use Rattle.gds_lines.specs.declared.TheConstants.{INPUT_LIMIT}
-use Rattle.gds_lines.specs.Lines.{after_first_line, next_line}
+use Rattle.gds_lines.specs.Lines.{after_first_line}
 use Rattle.gds_lines.specs.LinesState.{Counts, LinesState}
 use Rattle.gds_words.specs.Script.{Asks, Request, epoch}
 use Rattle.gds_run.specs.declared.error.RunError.{RunError}

@@ -1,5 +1,5 @@
 -- What a request about a node is answered, and what a change leaves.
-use Rattle.std.specs.Prelude.{◌≡◌, ℕ, ◌+◌, List, None, OnErr, Option, Result, Some}
+use Rattle.std.specs.Prelude.{◌≡◌, ℕ, ◌+◌, None, OnErr, Option, Result, Some}
 use Rattle.host_model.specs.Files.{Contents}
 use Rattle.host_model.specs.Told.{TellsOn}
 use Rattle.m_key.specs.Reference.{node_of}

@@ -21,7 +21,9 @@ pub(crate) enum Change {
         value: Vec<u8>,
     },
     /// The node and its descendants lose their values.
-    Kill { reference: Reference },
+    Kill {
+        reference: Reference,
+    },
 }
 
 /// Makes a change. Where that is refused the answer says why.

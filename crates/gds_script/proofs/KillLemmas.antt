@@ -1,11 +1,11 @@
 -- A KILL of a node that has no value and no descendant with one leaves the map.
-use Rattle.std.proofs.Common.{◌≡◌, ◌⊎◌, ℕ, ◌+◌, Bool, true, false, cond, List, [], ◌∷◌, ◌++◌, length, map, Option, None}
+use Rattle.std.proofs.Common.{◌≡◌, ◌⊎◌, ℕ, ◌+◌, Bool, true, false, cond, List, [], ◌∷◌, ◌++◌, length, Option, None}
 use Rattle.std.proofs.Common.{Some, refl, sym, ap, subst, ◌∙◌, arith, inl, inr, ⊎_elim, ltb, is_eq, length-append}
 use Rattle.std.proofs.lemmas.List.{append-nil}
 use Rattle.std.proofs.lemmas.Bool.{and_from, cases_Bool, false_from_ne_true, false≢true, ltb-false, or_cases}
 use Rattle.std.specs.Prelude.{◌||◌, is_some}
 use Rattle.std.specs.List.{list_any}
-use Rattle.std.specs.FinMap.{contains_key-keys, entries, get, keys, same_map}
+use Rattle.std.specs.FinMap.{contains_key-keys, get, same_map}
 use Rattle.std.specs.Ordering.{eq_by_cmp}
 use Rattle.std.proofs.lemmas.Cmp.{tied_itself}
 use Rattle.gds_sound.specs.Questions.{data_of, is_under, places_of}
@@ -14,7 +14,7 @@ use Rattle.m_key.specs.Globals.{Globals, Place, after, is_led, kill, place_cmp}
 use Rattle.m_key.specs.Node.{Node, NodeSubscript}
 use Rattle.m_key.proofs.KeyLemmas.{is_equal, led_leads, leads_led}
 use Rattle.m_key.proofs.NumberLemmas.{numbers}
-use Rattle.m_key.proofs.PlaceLemmas.{killed, place_same, place_total, same_place, spared}
+use Rattle.m_key.proofs.PlaceLemmas.{killed, place_same, place_total, spared}
 
 -- ---- tests on a list
 
