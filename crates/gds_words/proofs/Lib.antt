@@ -1,3 +1,4 @@
 mod SettingLemmas
+mod FormLemmas
 mod ScriptLemmas
 mod CreateLemmas

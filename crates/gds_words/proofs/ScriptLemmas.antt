@@ -1,16 +1,19 @@
 -- What a line of a script asks for.
-use Rattle.std.proofs.Common.{◌≡◌, ℕ, ◌-◌, ◌≤◌, List, ◌∷◌, ◌++◌, length, take, drop, refl, sym, ap, ◌∙◌, subst, arith}
-use Rattle.std.proofs.Common.{length-append, length-drop, true, codes}
-use Rattle.std.specs.Prelude.{bytes_eq}
-use Rattle.std.proofs.lemmas.Bool.{false≢true}
+use Rattle.std.proofs.Common.{◌≡◌, ℕ, ◌-◌, ◌<◌, ◌≤◌, List, ◌∷◌, ◌++◌, length, take, drop, refl, sym, ap, ◌∙◌, subst}
+use Rattle.std.proofs.Common.{arith, length-append, length-drop, true, false, Result, Ok, Err, Option, None, Some}
+use Rattle.std.specs.Prelude.{bytes_eq, All, IfOk, IfSome, IfNone}
 use Rattle.std.proofs.lemmas.List.{take_at, drop_at, take-append-drop, take_all}
 use Rattle.std.proofs.lemmas.Slice.Eq.{bytes_eq-Decides}
-use Rattle.m_key.specs.Node.{Node}
-use Rattle.m_text.specs.Grammar.{IsReferenceText, IsValueText}
-use Rattle.m_text.specs.Front.{leads}
+use Rattle.m_key.specs.Node.{Node, IsNode}
+use Rattle.m_text.specs.Grammar.{IsReferenceText, IsNullReferenceText, IsValueText}
+use Rattle.m_text.specs.Written.{reference_text, null_reference_text, value_text}
 use Rattle.m_text.proofs.ReferenceLemmas.{tail_of}
-use Rattle.gds_words.specs.Script.{Request, set, get, epoch, IsSetting, IsForm, Asks}
+use Rattle.gds_words.specs.declared.script.TheConstants.{LINE_MAX}
+use Rattle.gds_words.specs.declared.script.ScriptLine.{ScriptLine}
+use Rattle.gds_words.specs.Script.{Request, set, kill, get, order, data_of, query, epoch, request_of, IsSetting, IsForm}
+use Rattle.gds_words.specs.Script.{Asks, IsRight, request_text}
 use Rattle.gds_words.proofs.SettingLemmas.{none_longer}
+use Rattle.gds_words.proofs.FormLemmas.{OneReference, OneNull, NullApart, one_form}
 
 -- ---- fronts
 
@@ -23,15 +26,6 @@ front_read front text rest same behind =
 
 pub behind_all : (len : ℕ) (text : List ℕ) → take (length text - len) (drop len text) ≡ drop len text
 behind_all len text = take_all (length text - len) (drop len text) (omega (arith, length-drop len text))
-
-set_no_get : (s t : List ℕ) → codes "SET " ++ s ≡ codes "GET " ++ t → ⊥
-set_no_get s t e = false≢true (ap (leads 71) e)
-
-set_no_epoch : (s : List ℕ) → codes "SET " ++ s ≡ codes "EPOCH" → ⊥
-set_no_epoch s e = false≢true (ap (leads 69) e)
-
-get_no_epoch : (s : List ℕ) → codes "GET " ++ s ≡ codes "EPOCH" → ⊥
-get_no_epoch s e = false≢true (ap (leads 69) e)
 
 -- ---- settings
 
@@ -71,9 +65,6 @@ setting_read text back value len node named behind meant = record {
 
 -- ---- a line asks for one thing
 
-abbrev pub OneReference : Type 0
-OneReference = (text : List ℕ) (a b : Node) → IsReferenceText text a → IsReferenceText text b → a ≡ b
-
 abbrev pub OneValue : Type 0
 OneValue = (text a b : List ℕ) → IsValueText text a → IsValueText text b → a ≡ b
 
@@ -103,39 +94,57 @@ one_setting one value text n m v w s t =
           (sym (tail_of 61 61 s.back t.back behind)) t.meant),
     )
 
-one_form : OneReference → OneValue → (line : List ℕ) (a b : Request) → IsForm line a → IsForm line b → a ≡ b
-one_form one value line (set n v) (set m w) h k =
-    let same : h.0 ≡ k.0 = ap (drop 4) (sym h.1 ∙ k.1) in
-    let both =
-    one_setting one value k.0 n m v w (subst (λ (t : List ℕ). IsSetting t n v) same h.2) k.2 in
-    ap (λ (x : Node). set x v) both.0 ∙ ap (λ (y : List ℕ). set m y) both.1
-one_form one value line (set n v) (get m) h k = absurd (set_no_get h.0 k.0 (sym h.1 ∙ k.1))
-one_form one value line (set n v) epoch h k = absurd (set_no_epoch h.0 (sym h.1 ∙ k))
-one_form one value line (get n) (set m w) h k = absurd (set_no_get k.0 h.0 (sym k.1 ∙ h.1))
-one_form one value line (get n) (get m) h k =
-    let same : h.0 ≡ k.0 = ap (drop 4) (sym h.1 ∙ k.1) in
-    ap get (one k.0 n m (subst (λ (t : List ℕ). IsReferenceText t n) same h.2) k.2)
-one_form one value line (get n) epoch h k = absurd (get_no_epoch h.0 (sym h.1 ∙ k))
-one_form one value line epoch (set m w) h k = absurd (set_no_epoch k.0 (sym k.1 ∙ h))
-one_form one value line epoch (get m) h k = absurd (get_no_epoch k.0 (sym k.1 ∙ h))
-one_form one value line epoch epoch h k = refl
+pub one_request_lem : OneReference → OneValue → OneNull → NullApart → (line : List ℕ) (a b : Request)
+    → Asks line a → Asks line b → a ≡ b
+one_request_lem one value null apart line a b h k =
+    one_form (one_setting one value) one null apart line a b h.form k.form
 
-pub one_request_lem : OneReference → OneValue → (line : List ℕ) (a b : Request) → Asks line a → Asks line b → a ≡ b
-one_request_lem one value line a b h k = one_form one value line a b h.form k.form
+-- ---- what is read of a line
 
--- ---- what a line asks for that begins so
+pub some_asked : {E : Type 0} (r : Result (Option ScriptLine) E) (line whole : List ℕ) → line ≡ whole
+    → length line ≤ LINE_MAX → IfOk r (λ o. IfSome o (λ read. IsForm whole (request_of read)))
+    → IfOk r (λ o. IfSome o (λ read. Asks line (request_of read)))
+some_asked (Ok (Some read)) line whole e l h = record {
+  len = l;
+  form = subst (λ (t : List ℕ). IsForm t (request_of read)) (sym e) h;
+}
+some_asked (Ok None) line whole e l h = h
+some_asked (Err error) line whole e l h = h
 
-pub set_only : (line setting : List ℕ) → line ≡ codes "SET " ++ setting
-    → ((node : Node) (value : List ℕ) → IsSetting setting node value → ⊥) → (request : Request) → IsForm line request
-    → ⊥
-set_only line setting e none (set n v) h =
-    none n v (subst (λ (t : List ℕ). IsSetting t n v) (ap (drop 4) (sym h.1 ∙ e)) h.2)
-set_only line setting e none (get n) h = set_no_get setting h.0 (sym e ∙ h.1)
-set_only line setting e none epoch h = set_no_epoch setting (sym e ∙ h)
+pub none_asks : {E : Type 0} (r : Result (Option ScriptLine) E) (line whole : List ℕ) → line ≡ whole
+    → IfOk r (λ o. IfNone o ((request : Request) → IsForm whole request → ⊥))
+    → IfOk r (λ o. IfNone o ((request : Request) → Asks line request → ⊥))
+none_asks (Ok (Some read)) line whole e h = h
+none_asks (Ok None) line whole e h =
+    λ request asks. h request (subst (λ (t : List ℕ). IsForm t request) e asks.form)
+none_asks (Err error) line whole e h = h
 
-pub get_only : (line text : List ℕ) → line ≡ codes "GET " ++ text
-    → ((node : Node) → IsReferenceText text node → ⊥) → (request : Request) → IsForm line request → ⊥
-get_only line text e none (set n v) h = set_no_get h.0 text (sym h.1 ∙ e)
-get_only line text e none (get n) h =
-    none n (subst (λ (t : List ℕ). IsReferenceText t n) (ap (drop 4) (sym h.1 ∙ e)) h.2)
-get_only line text e none epoch h = get_no_epoch text (sym e ∙ h)
+-- ---- what is written
+
+abbrev pub Written : Type 0
+Written = (node : Node) → IsNode node → IsReferenceText (reference_text node) node
+
+setting_written : Written → ((value : List ℕ) → All (λ b. b < 256) value → IsValueText (value_text value) value)
+    → (node : Node) (value : List ℕ) → IsNode node → All (λ b. b < 256) value
+    → IsSetting (reference_text node ++ 61 ∷ value_text value) node value
+setting_written written value_written node value h k = record {
+  front = reference_text node;
+  back = value_text value;
+  written = refl;
+  named = written node h;
+  meant = value_written value k;
+}
+
+pub form_written : Written → ((value : List ℕ) → All (λ b. b < 256) value → IsValueText (value_text value) value)
+    → ((node : Node) → IsNode node → length node.subscripts < 31
+    → IsNullReferenceText (null_reference_text node) node) → (request : Request) → IsRight request
+    → IsForm (request_text request) request
+form_written written value null (set node v) h =
+    (reference_text node ++ 61 ∷ value_text v, refl, setting_written written value node v h.0 h.1)
+form_written written value null (kill node) h = (reference_text node, refl, written node h)
+form_written written value null (get node) h = (reference_text node, refl, written node h)
+form_written written value null (order node false) h = (reference_text node, refl, written node h)
+form_written written value null (order node true) h = (null_reference_text node, refl, null node h.0 h.1)
+form_written written value null (data_of node) h = (reference_text node, refl, written node h)
+form_written written value null (query node) h = (reference_text node, refl, written node h)
+form_written written value null epoch h = refl

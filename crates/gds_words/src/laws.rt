@@ -8,6 +8,7 @@ pub fn one_request()
     ensures { (line : List ℕ) (a b : Request) → Asks line a → Asks line b → a ≡ b }
 {
     m_text::one_reference();
+    m_text::one_null_reference();
     m_text::one_value();
 }
 
@@ -17,5 +18,6 @@ pub fn written_request()
         → Asks (request_text request) request }
 {
     m_text::written_reference();
+    m_text::written_null_reference();
     m_text::written_value();
 }

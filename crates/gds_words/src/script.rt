@@ -78,28 +78,20 @@ fn read_behind(alloc: Global, verb: Verb, text: &[u8]) -> Result<Option<ScriptLi
         }
         Verb::Order => read_order(alloc, text),
         Verb::Kill => {
-            let Some(reference) = read_whole_reference(alloc, text)? else {
-                return Ok(None);
-            };
-            Ok(Some(ScriptLine::Kill { reference }))
+            let named = read_whole_reference(alloc, text)?;
+            Ok(named.map(|reference| ScriptLine::Kill { reference }))
         }
         Verb::Get => {
-            let Some(reference) = read_whole_reference(alloc, text)? else {
-                return Ok(None);
-            };
-            Ok(Some(ScriptLine::Get { reference }))
+            let named = read_whole_reference(alloc, text)?;
+            Ok(named.map(|reference| ScriptLine::Get { reference }))
         }
         Verb::DataOf => {
-            let Some(reference) = read_whole_reference(alloc, text)? else {
-                return Ok(None);
-            };
-            Ok(Some(ScriptLine::DataOf { reference }))
+            let named = read_whole_reference(alloc, text)?;
+            Ok(named.map(|reference| ScriptLine::DataOf { reference }))
         }
         Verb::Query => {
-            let Some(reference) = read_whole_reference(alloc, text)? else {
-                return Ok(None);
-            };
-            Ok(Some(ScriptLine::Query { reference }))
+            let named = read_whole_reference(alloc, text)?;
+            Ok(named.map(|reference| ScriptLine::Query { reference }))
         }
     }
 }

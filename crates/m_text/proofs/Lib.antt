@@ -11,3 +11,4 @@ pub mod WrittenLemmas
 pub mod SubscriptLemmas
 pub mod ReferenceLemmas
 pub mod OneReferenceLemmas
+pub mod NullReferenceLemmas

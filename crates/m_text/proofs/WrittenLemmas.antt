@@ -1,17 +1,18 @@
 -- What is written stands for the value.
-use Rattle.std.proofs.Common.{◌≡◌, ℕ, zero, suc, ◌+◌, ◌/◌, ◌%◌, ◌<◌, Bool, true, false, ◌&&◌, ltb, List, [], ◌∷◌, ◌++◌}
-use Rattle.std.proofs.Common.{length, map, flat_map, refl, sym, ap, ◌∙◌, subst, arith, ⊎_elim}
+use Rattle.std.proofs.Common.{◌≡◌, ℕ, ◌+◌, ◌/◌, ◌%◌, ◌<◌, Bool, true, false, ◌&&◌, ltb, List, [], ◌∷◌, ◌++◌}
+use Rattle.std.proofs.Common.{length, map, flat_map, refl, sym, ap, ◌∙◌, subst, arith, ⊎_elim, codes}
 use Rattle.std.specs.List.{All, AllByRecursion}
 use Rattle.std.specs.Char.{is_ascii_digit}
 use Rattle.std.proofs.lemmas.Bool.{ltb-true, cond-true, cases_Bool, cond-false}
+use Rattle.std.proofs.lemmas.List.{map_push}
 use Rattle.std.proofs.lemmas.List.Elements.{recursion_from_All}
 use Rattle.m_key.specs.Node.{Node, NodeSubscript, number, IsSubscript, IsNode, spelled}
 use Rattle.m_key.specs.Node.{string as text_node}
 use Rattle.m_text.specs.Grammar.{code_value, IsCode, Piece, quoted, coded, piece_bytes, IsPiece, Expression, bare}
 use Rattle.m_text.specs.Grammar.{string, expression_text, expression_bytes, IsExpression, IsValueText, reference_form}
-use Rattle.m_text.specs.Grammar.{IsReferenceText}
+use Rattle.m_text.specs.Grammar.{IsReferenceText, IsNullReferenceText}
 use Rattle.m_text.specs.Written.{is_printable, decimal, run_of, led_by, runs_of, pieces_of, value_text, subscript_text}
-use Rattle.m_text.specs.Written.{reference_text}
+use Rattle.m_text.specs.Written.{reference_text, null_reference_text}
 use Rattle.m_text.proofs.NumberLemmas.{digit_pass}
 
 -- the digits are the code of this byte
@@ -219,4 +220,31 @@ written_reference_lem node h =
       right = all_right node.subscripts each;
       written = ap (reference_form node.name) (all_written node.subscripts);
       meant = all_meant node.subscripts each;
+    }
+
+-- the null subscript behind those of the node
+
+null_expression : Expression
+null_expression = string (quoted [] ∷ [])
+
+pushed_right : (es : List Expression) (e : Expression) → AllByRecursion IsExpression es → IsExpression e
+    → AllByRecursion IsExpression (es ++ e ∷ [])
+pushed_right [] e h k = (k, tt)
+pushed_right (x ∷ xs) e h k = (h.0, pushed_right xs e h.1 k)
+
+pub written_null_reference_lem : (node : Node) → IsNode node → length node.subscripts < 31
+    → IsNullReferenceText (null_reference_text node) node
+unfolding null_reference_text null_expression
+written_null_reference_lem node h fewer =
+    let each = recursion_from_All IsSubscript node.subscripts h.subscripts in
+    let before : List Expression = map expression_of node.subscripts in
+    record {
+      is_node = h;
+      fewer = fewer;
+      subscripts = before ++ null_expression ∷ [];
+      right = pushed_right before null_expression (all_right node.subscripts each) (omega arith, (tt, tt));
+      written = ap (reference_form node.name) (map_push expression_text before null_expression
+          ∙ ap (λ (texts : List (List ℕ)). texts ++ codes "\"\"" ∷ []) (all_written node.subscripts));
+      meant = map_push expression_bytes before null_expression
+          ∙ ap (λ (texts : List (List ℕ)). texts ++ [] ∷ []) (all_meant node.subscripts each);
     }

@@ -11,7 +11,8 @@ mod subscripts;
 mod value;
 
 pub use laws::{
-    one_null_reference, one_reference, one_value, written_null_reference, written_reference, written_value,
+    one_null_reference, one_reference, one_value, written_null_reference, written_reference,
+    written_value,
 };
 pub use null_reference::read_null_reference;
 pub use printing::{print_reference, print_value};

@@ -1,21 +1,11 @@
-use Rattle.std.proofs.Common.{codes}
-use Rattle.gds_words.proofs.ScriptLemmas.{front_read, set_only, get_only}
+use Rattle.std.proofs.Common.{sym, ◌∙◌}
+use Rattle.std.proofs.lemmas.Bool.{false≢true}
+use Rattle.std.proofs.lemmas.Slice.Eq.{bytes_eq-Decides}
+use Rattle.gds_words.proofs.FormLemmas.{none_asked}
 use Rattle.gds_words.proofs.script.read_script.Goals as goal
 
-pub returns-in_default-2-clause-none : goal.returns-in_default-2-clause-none
-returns-in_default-2-clause-none c =
-    let taken = c.in-Some.ensures.cases in
-    λ request asks.
-    set_only c.args.line.now c.in-Some.setting.now
-    (front_read (codes "SET ") c.args.line.now c.in-Some.setting.now taken.0 taken.1)
-    (rw c.in_default-2.is at c.in_ok-reference.ensures.none) request
-    asks.form
-
-pub returns-in_default-3-clause-none : goal.returns-in_default-3-clause-none
-returns-in_default-3-clause-none c =
-    let taken = c.in-Some-strip_prefix.ensures.cases in
-    λ request asks.
-    get_only c.args.line.now c.in-Some-strip_prefix.text.now
-    (front_read (codes "GET ") c.args.line.now c.in-Some-strip_prefix.text.now taken.0 taken.1)
-    (rw c.in_default-3.is at c.in_ok-reference-2.ensures.none) request
-    asks.form
+pub returns-in_default-clause-none : goal.returns-in_default-clause-none
+returns-in_default-clause-none c =
+    none_asked c.args.line.now c.in_default.ensures.none
+    (λ e. false≢true (sym c.if-eq.false ∙ c.eq.ensures
+    ∙ (bytes_eq-Decides c.args.line.now c.as_slice.result.now).1 (e ∙ sym c.as_slice.ensures)))
