@@ -1,6 +1,6 @@
 -- What a SET and a KILL of a node are answered.
-use Rattle.std.proofs.Common.{◌≡◌, ℕ, ◌==◌, ◌+◌, ◌^◌, ◌≤◌, Bool, true, false, cond, leb, List, length, Option, None, Some}
-use Rattle.std.proofs.Common.{MatchBool, MatchOption, arith, refl, sym, ap, subst, ◌∙◌, le-ltb, true≢false, Err}
+use Rattle.std.proofs.Common.{◌≡◌, ℕ, ◌==◌, ◌+◌, ◌^◌, ◌≤◌, Bool, true, false, cond, leb, List, length, Option, None}
+use Rattle.std.proofs.Common.{Some, MatchBool, MatchOption, arith, refl, sym, ap, subst, ◌∙◌, le-ltb, true≢false, Err}
 use Rattle.std.proofs.lemmas.Bool.{le-leb, lt-leb, ne_eqb}
 use Rattle.std.specs.Prelude.{OnErr, Result, nat_le}
 use Rattle.std.specs.Option.{ForSome}

@@ -39,7 +39,8 @@ module _ {H : Type 0} (old new : UnitsState H) (p : Place)
         (λ state is. record {
           place = p;
           node_is = refl;
-          tells = subst (λ value. TellsValue value answer) (sym (has state.image is.image_is state.map is.stands)) tells;
+          tells = subst (λ value. TellsValue value answer)
+              (sym (has state.image is.image_is state.map is.stands)) tells;
         }),
   )
 

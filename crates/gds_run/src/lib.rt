@@ -4,10 +4,12 @@
 mod call;
 mod change;
 mod error;
+mod killing;
 mod line;
 mod lines;
 mod question;
 mod session;
+mod setting;
 
 pub use call::{Ran, run};
 pub use error::RunError;

@@ -1,6 +1,6 @@
 -- Which answers are those of no epoch.
-use Rattle.std.proofs.Common.{◌≡◌, ℕ, ◌+◌, ◌^◌, Bool, true, false, eqb, leb, List, length, Option, None, Some, MatchBool}
-use Rattle.std.proofs.Common.{MatchOption, ap, ◌∙◌, refl, subst, sym}
+use Rattle.std.proofs.Common.{◌≡◌, ℕ, ◌+◌, ◌^◌, Bool, true, false, eqb, leb, List, length, Option, None, Some}
+use Rattle.std.proofs.Common.{MatchBool, MatchOption, ap, ◌∙◌, refl, subst, sym}
 use Rattle.std.proofs.lemmas.Bool.{false≢true}
 use Rattle.std.specs.FinMap.{get}
 use Rattle.m_key.specs.Globals.{Place}

@@ -175,7 +175,8 @@ value_one_line value =
 
 -- ---- references
 
-passed_one_line : (test : ℕ → Bool) → test 10 ≡ false → (bytes : List ℕ) → list_all test bytes ≡ true → IsOneLine bytes
+passed_one_line : (test : ℕ → Bool) → test 10 ≡ false → (bytes : List ℕ) → list_all test bytes ≡ true
+    → IsOneLine bytes
 passed_one_line test fails [] h = tt
 passed_one_line test fails (b ∷ bytes) h =
     let both = and_parts (test b) (list_all test bytes) h in (
@@ -208,11 +209,12 @@ subscripts_one_line (s ∷ ss) right = (
 form_one_line : (name : List ℕ) (texts : List (List ℕ)) → IsOneLine name → AreOneLine texts
     → IsOneLine (reference_form name texts)
 form_one_line name [] h k = (refl, h)
-form_one_line name (text ∷ texts) h k = (
-  refl,
-  one_line-append name (40 ∷ (joined 44 (text ∷ texts) ++ 41 ∷ [])) h
-      (refl, one_line-append (joined 44 (text ∷ texts)) (41 ∷ []) (joined_one_line 44 refl (text ∷ texts) k) (refl, tt)),
-)
+form_one_line name (text ∷ texts) h k =
+    let list = one_line-append (joined 44 (text ∷ texts)) (41 ∷ []) (joined_one_line 44 refl (text ∷ texts) k)
+    (refl, tt) in (
+      refl,
+      one_line-append name (40 ∷ (joined 44 (text ∷ texts) ++ 41 ∷ [])) h (refl, list),
+    )
 
 reference_one_line : (node : Node) → IsNode node → IsOneLine (reference_text node)
 unfolding reference_text

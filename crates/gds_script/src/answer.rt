@@ -137,7 +137,8 @@ fn push_subscript(subscript: &Subscript, out: &mut Vec<u8>) -> Result<(), AllocE
 }
 
 fn push_node(reference: &Reference, out: &mut Vec<u8>) -> Result<(), AllocError>
-    ensures ok { OnOk result (out.new.items ≡ out.old.items ++ (codes "NODE " ++ reference_text (node_of reference.now))) }
+    ensures ok { OnOk result
+        (out.new.items ≡ out.old.items ++ (codes "NODE " ++ reference_text (node_of reference.now))) }
     ensures err { OnErr result (take (length out.old.items) out.new.items ≡ out.old.items) }
 {
     out.extend_from_slice(b"NODE ")?;

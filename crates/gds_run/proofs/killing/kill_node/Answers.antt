@@ -2,7 +2,7 @@ use Rattle.std.proofs.Common.{◌≡◌, ◌∙◌, Err, None, ap}
 use Rattle.gds_units.specs.State.{image_of}
 use Rattle.m_key.specs.Reference.{place_of}
 use Rattle.gds_run.proofs.ChangeLemmas.{kill_made, kill_spent}
-use Rattle.gds_run.proofs.change.kill_node.Goals as goal
+use Rattle.gds_run.proofs.killing.kill_node.Goals as goal
 
 pub returns-in-Ok-clause-answer : goal.returns-in-Ok-clause-answer
 returns-in-Ok-clause-answer g c =
