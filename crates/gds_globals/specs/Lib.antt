@@ -4,5 +4,6 @@ pub mod SetLaws
 pub mod Planting
 pub mod Ready
 pub mod Deep
+pub mod Questions
 pub mod Kill
 pub mod Killing

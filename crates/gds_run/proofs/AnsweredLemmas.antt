@@ -1,6 +1,6 @@
 -- One more line is answered.
 use Rattle.std.proofs.Common.{◌≡◌, ℕ, ◌+◌, ◌^◌, ◌<◌, ◌≤◌, List, [], ◌∷◌, ◌++◌, length, Contains}
-use Rattle.std.proofs.Common.{Option, None, Some, MatchOption, arith, refl, sym, ap, subst, ◌∙◌, inl, ⊎_elim}
+use Rattle.std.proofs.Common.{Option, None, Some, arith, refl, sym, ap, subst, ◌∙◌, inl, ⊎_elim}
 use Rattle.std.proofs.Common.{append-nil, append_assoc, take_at, length-append}
 use Rattle.std.proofs.lemmas.Grind.{flat_map-append}
 use Rattle.std.proofs.lemmas.List.{take-append-le}
@@ -12,11 +12,10 @@ use Rattle.host_model.specs.Told.{TellsOn}
 use Rattle.host_model.proofs.FrameLemmas.{TellsOn-some}
 use Rattle.host_model.proofs.MomentLemmas.{same_only, then_more}
 use Rattle.m_key.specs.Globals.{Change, Globals, after_all}
-use Rattle.m_key.specs.Node.{Node}
 use Rattle.gds_units.specs.Durable.{IsStored, KeepsOrStores}
 use Rattle.gds_units.specs.Reading.{OnlyRead}
 use Rattle.gds_units.specs.State.{UnitsState, WhereTold, image_of}
-use Rattle.gds_words.specs.Script.{Asks}
+use Rattle.gds_words.specs.Script.{Asks, Request}
 use Rattle.gds_words.specs.Script as asked
 use Rattle.gds_script.specs.declared.answer.Answer.{Answer}
 use Rattle.gds_script.specs.declared.answer.Answer.TheVariants.{Done, Epoch}
@@ -24,9 +23,9 @@ use Rattle.gds_script.specs.Answer.{answer_line, answer_lines}
 use Rattle.gds_script.specs.Finding.{FindsOne}
 use Rattle.gds_script.specs.Made.{AreMade, IsKept}
 use Rattle.gds_script.specs.Said.{IsAfterPrefix, with_change}
-use Rattle.gds_script.specs.Script.{Answers, AnswersSet, Runs, State, Steps, start_of}
+use Rattle.gds_script.specs.Script.{Runs, State, Steps, start_of}
 use Rattle.gds_run.specs.Progress.{Origin, Progress}
-use Rattle.gds_run.specs.Setting.{IsSetOrRefused, IsStateOf}
+use Rattle.gds_run.specs.Request.{IsMadeOrRefused, IsStateOf}
 use Rattle.gds_script.proofs.FindingLemmas.{found_wider, one_found_stored}
 use Rattle.gds_script.proofs.KeptLemmas.{IsNoEpoch}
 use Rattle.gds_script.proofs.MadeLemmas.{after_all-append, are_made_more}
@@ -167,19 +166,15 @@ module _ {H : Type 0} (tells : H → Option Contents) (moment : H → ℕ) (left
       is = kept.is ∙ ap (after_all o.map) (sym (take-append-le kept.kept s.made more kept.few));
     }
 
-    -- A SET that is made.
-    pub made_waits : (node : Node) (value : List ℕ) → Asks line (asked.set node value)
-        → IsSetOrRefused base new node value None
+    -- A change that is made.
+    pub made_waits : (request : Request) → Asks line request → IsMadeOrRefused base new request None
         → Progress tells moment left_since o rest new (answer_line Done) (changes + 1)
-    made_waits node value asks set =
+    made_waits request asks make =
         let state : IsStateOf base s.state = record { image_is = s.image_is; stands = s.stands } in
-        let made = set s.state state in
-        let answers : Answers (asked.set node value) s.state Done made.1 =
-        subst (λ first. MatchOption first (AnswersSet node value s.state Done made.1)
-        (λ answer. (Done ≡ answer) × (made.1 ≡ s.state))) (sym made.0) made.2 in
-        let count : made.1.changes ≡ changes + 1 = made.2.changes_are ∙ ap (λ n. n + 1) (sym s.changes_are) in
+        let made = make s.state state in
+        let count : made.0.changes ≡ changes + 1 = made.2 ∙ ap (λ n. n + 1) (sym s.changes_are) in
         subst (Progress tells moment left_since o rest new (answer_line Done)) count
-        (first_waits Done made.1 (inl (asked.set node value, asks, answers)) made.3
+        (first_waits Done made.0 (inl (request, asks, made.1)) made.3
         (λ more c left. found_wider (IsKept o.map s.answers s.made (length s.made))
         (IsKept o.map (s.answers ++ Done ∷ []) (s.made ++ more) (length s.made)) (o.said ++ answer_lines s.answers) c
         (one_more Done (λ n is. done_no_epoch n is) more)

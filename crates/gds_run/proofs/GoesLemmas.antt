@@ -13,7 +13,7 @@ use Rattle.gds_script.proofs.StepLemmas.{OneRequest}
 use Rattle.gds_run.specs.declared.error.RunError.{RunError}
 use Rattle.gds_run.specs.declared.error.RunError.TheVariants.{SayFault}
 use Rattle.gds_run.specs.Progress.{GoesOn, IsCutShort, Origin, Progress}
-use Rattle.gds_run.specs.Setting.{IsAnswered, IsStateOf}
+use Rattle.gds_run.specs.Request.{IsAnswered, IsStateOf}
 use Rattle.gds_run.proofs.AnsweredLemmas.{unchanged}
 
 module _ {H : Type 0} (tells : H → Option Contents) (moment : H → ℕ) (left_since : H → ℕ → Contents → Type 0)

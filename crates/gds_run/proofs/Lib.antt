@@ -1,12 +1,13 @@
 pub mod OpeningLemmas
 pub mod EndsLemmas
 pub mod ThroughLemmas
-pub mod EpochLemmas
 pub mod FoundLemmas
 pub mod SettledLemmas
 pub mod SayingLemmas
 pub mod AnsweredLemmas
 pub mod GoesLemmas
-pub mod NodeLemmas
+pub mod RequestLemmas
+pub mod ChangeLemmas
+pub mod QuestionLemmas
 pub mod FinishLemmas
 pub mod CallLemmas

@@ -1,5 +1,5 @@
 pub mod Errors
-pub mod Setting
+pub mod Request
 pub mod Progress
 pub mod Line
 pub mod Ending

@@ -4,17 +4,20 @@ use Rattle.std.specs.Prelude.{IfErr, IfOk, OnOk, OnSome, Option, None, Some, Res
 use Rattle.host_model.specs.Failures.{Rose}
 use Rattle.host_model.specs.Told.{TellsOn}
 use Rattle.gds_lines.specs.declared.TheConstants.{INPUT_LIMIT}
-use Rattle.gds_lines.specs.Lines.{after_first_line, next_line}
+use Rattle.gds_lines.specs.Lines.{after_first_line}
 use Rattle.gds_lines.specs.LinesState.{Counts, LinesState}
-use Rattle.gds_words.specs.Script.{Asks, Request, request_of}
+use Rattle.gds_words.specs.Script.{Asks, Request, epoch}
 use Rattle.gds_run.specs.declared.error.RunError.{RunError}
 use Rattle.gds_run.specs.declared.error.RunError.TheVariants.{InputFault, InputTooLong, Memory}
+use Rattle.gds_run.specs.Request.{change_request, question_request}
 use Rattle.gds_run.specs.declared.line.Line.{Line}
 use Rattle.gds_run.specs.declared.line.Line.TheVariants as line
 
 -- what these bytes ask for, or that they ask for nothing
 abbrev pub Means : List ℕ → Line → Type 0
-Means bytes (line.Asks read) = Asks bytes (request_of read)
+Means bytes (line.Changes change) = Asks bytes (change_request change)
+Means bytes (line.Asks question) = Asks bytes (question_request question)
+Means bytes line.Epoch = Asks bytes epoch
 Means bytes line.Bad = (request : Request) → Asks bytes request → ⊥
 
 abbrev pub MeansNext : Option (List ℕ) → Option Line → Type 0

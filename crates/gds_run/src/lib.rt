@@ -1,12 +1,15 @@
-//! A script of SETs, GETs and epochs, answered line by line on a database.
+//! A script of changes, questions and epochs, answered line by line on a database.
 #![tactic(auto)]
 
 mod call;
+mod change;
 mod error;
+mod killing;
 mod line;
 mod lines;
-mod node;
+mod question;
 mod session;
+mod setting;
 
 pub use call::{Ran, run};
 pub use error::RunError;

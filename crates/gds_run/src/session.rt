@@ -1,20 +1,20 @@
 ghost use Rattle.std.specs.Prelude.{◌≡◌, ◌^◌, ◌+◌, ◌<◌, ◌≤◌, ◌∷◌, [], ℕ, List, false, Err, None, OnErr, OnOk};
 ghost use Rattle.host_model.specs.Failures.{NeverFell};
-ghost use Rattle.m_key.specs.Reference.{node_of};
 ghost use Rattle.gds_words.specs.Script.{Asks, Request};
 ghost use Rattle.gds_words.specs.Script as asked;
 ghost use Rattle.gds_run.specs.Ending.{EndsAnswering};
 ghost use Rattle.gds_run.specs.Line.{Means};
 ghost use Rattle.gds_run.specs.Progress.{GoesOn, Origin, Progress, Says};
+ghost use Rattle.gds_run.specs.Request.{change_request, question_request};
 
+use crate::change::{Change, make_change};
 use crate::error::RunError;
 use crate::line::Line;
-use crate::node::{set_node, value_of};
+use crate::question::{Question, answer_to};
 use gds_base::Base;
 use gds_script::{Answer, write_answer};
-use gds_words::{ScriptLine, one_request};
+use gds_words::one_request;
 use host_model::Host;
-use m_key::Reference;
 use std::alloc::Global;
 
 /// How many bytes of answers wait at most before they are said.
@@ -61,28 +61,21 @@ impl<H: Host> Session<H> {
             result }
     {
         match line {
-            Line::Asks(ScriptLine::Set { reference, value }) => {
-                self.answer_set(alloc, &reference, &value)
-            }
-            Line::Asks(ScriptLine::Get { reference }) => self.answer_get(alloc, &reference),
-            Line::Asks(ScriptLine::Epoch) => self.answer_epoch(alloc),
+            Line::Changes(change) => self.answer_change(alloc, &change),
+            Line::Asks(question) => self.answer_question(alloc, &question),
+            Line::Epoch => self.answer_epoch(alloc),
             Line::Bad => self.answer_bad_line(alloc),
         }
     }
 
-    /// The answer of a SET is there before the change is made, so that none is made whose answer finds no memory.
-    fn answer_set(
-        &mut self,
-        alloc: Global,
-        reference: &Reference,
-        value: &[u8],
-    ) -> Result<(), RunError>
+    /// The answer of a change is there before the change is made, so that none is made whose answer finds no memory.
+    fn answer_change(&mut self, alloc: Global, change: &Change) -> Result<(), RunError>
         requires going { self.old.base.stopped ≡ false }
         requires few { self.old.changes < 2 ^ 63 }
         ensures ends { EndsAnswering H.told H.failures self.old.base self.new.base result }
         ensures changes { self.new.changes ≤ self.old.changes + 1 }
         ensures run { (o : Origin H) (bytes : List ℕ) (rest : List (List ℕ))
-            → Asks bytes (asked.set (node_of reference.now) value.now)
+            → Asks bytes (change_request change.now)
             → Progress H.told H.moment H.left_since o (bytes ∷ rest) self.old.base self.old.waiting.items
             self.old.changes
             → GoesOn H.told H.moment H.left_since o bytes rest self.new.base self.new.waiting.items self.new.changes
@@ -91,7 +84,7 @@ impl<H: Host> Session<H> {
         one_request();
         self.say_waiting()?;
         write_answer(alloc, &Answer::Done, &mut self.waiting)?;
-        match set_node(alloc, &mut self.base, reference, value) {
+        match make_change(alloc, &mut self.base, change) {
             Ok(None) => {
                 self.changes += 1;
                 Ok(())
@@ -107,20 +100,20 @@ impl<H: Host> Session<H> {
         }
     }
 
-    fn answer_get(&mut self, alloc: Global, reference: &Reference) -> Result<(), RunError>
+    fn answer_question(&mut self, alloc: Global, question: &Question) -> Result<(), RunError>
         requires going { self.old.base.stopped ≡ false }
         requires few { self.old.changes < 2 ^ 63 }
         ensures ends { EndsAnswering H.told H.failures self.old.base self.new.base result }
         ensures changes { self.new.changes ≤ self.old.changes + 1 }
         ensures run { (o : Origin H) (bytes : List ℕ) (rest : List (List ℕ))
-            → Asks bytes (asked.get (node_of reference.now))
+            → Asks bytes (question_request question.now)
             → Progress H.told H.moment H.left_since o (bytes ∷ rest) self.old.base self.old.waiting.items
             self.old.changes
             → GoesOn H.told H.moment H.left_since o bytes rest self.new.base self.new.waiting.items self.new.changes
             result }
     {
         one_request();
-        let answer = value_of(alloc, &mut self.base, reference)?;
+        let answer = answer_to(alloc, &mut self.base, question)?;
         Ok(write_answer(alloc, &answer, &mut self.waiting)?)
     }
 

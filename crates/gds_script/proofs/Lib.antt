@@ -1,10 +1,12 @@
 pub mod TextLemmas
 pub mod WholeLineLemmas
+pub mod KillLemmas
 pub mod StepLemmas
 pub mod RunLemmas
 pub mod MadeLemmas
 pub mod ScriptLemmas
 pub mod KeptLemmas
+pub mod EpochLemmas
 pub mod AnswerLineLemmas
 pub mod PrefixLemmas
 pub mod FindingLemmas

@@ -1,21 +1,25 @@
--- What a line makes of the changes: one more where a SET was made, and else none.
-use Rattle.std.proofs.Common.{◌≡◌, ℕ, ◌+◌, Bool, true, false, cond, List, [], length}
+-- What a line makes of the changes: one more where a SET or a KILL was made, and else none.
+use Rattle.std.proofs.Common.{◌≡◌, ℕ, ◌+◌, ◌^◌, Bool, true, false, cond, eqb, leb, List, [], length, MatchBool}
 use Rattle.std.proofs.Common.{codes, Option, None, Some, MatchOption, refl, sym, ap, subst, ◌∙◌, arith, inl, inr}
-use Rattle.std.proofs.lemmas.Bool.{false≢true}
+use Rattle.std.proofs.lemmas.Bool.{eqb-true, false≢true}
 use Rattle.m_text.specs.Front.{leads}
 use Rattle.m_key.specs.Globals.{Change, Place, after_all, kill, set_value}
 use Rattle.m_key.specs.Key.{key_bytes}
 use Rattle.m_key.specs.Node.{Node}
 use Rattle.gds_header.specs.Fields.{fields_of}
 use Rattle.gds_header.specs.declared.header.Header.{Header}
+use Rattle.gds_sound.specs.Questions.{data_of}
 use Rattle.gds_words.specs.Script.{Asks, Request, epoch}
 use Rattle.gds_words.specs.Script as asked
 use Rattle.gds_script.specs.declared.answer.Answer.{Answer}
-use Rattle.gds_script.specs.declared.answer.Answer.TheVariants.{BadLine, Done, Epoch, Full, KeyTooLong, TnSpent}
-use Rattle.gds_script.specs.declared.answer.Answer.TheVariants.{TooDeep, Undefined, Value, ValueTooLong}
+use Rattle.gds_script.specs.declared.answer.Answer.TheVariants.{BadLine, Data, Done, End, Epoch, Full, KeyTooLong}
+use Rattle.gds_script.specs.declared.answer.Answer.TheVariants.{TnSpent, TooDeep, Undefined, Value, ValueTooLong}
+use Rattle.gds_script.specs.declared.answer.Answer.TheVariants as answer
 use Rattle.gds_script.specs.Answer.{answer_text}
 use Rattle.gds_script.specs.Said.{Accepts, AsksFor, with_change}
-use Rattle.gds_script.specs.Script.{Answers, AnswersSet, State, Steps, refusal, told_len}
+use Rattle.gds_script.specs.Script.{Answers, AnswersKill, AnswersSet, KillsNode, State, Steps, is_long, long_key}
+use Rattle.gds_script.specs.Script.{refusal, told_len}
+use Rattle.gds_script.proofs.KillLemmas.{nothing_killed}
 
 -- what the law `one_request` says
 abbrev pub OneRequest : Type 0
@@ -30,36 +34,33 @@ pub record IsMade (line : List ℕ) (answer : Answer) (old new : State) : Type 0
 
 -- ---- lines that ask for no change
 
--- The line asks for no SET.
-abbrev pub IsNoSet : List ℕ → Type 0
-IsNoSet line = (node : Node) (value : List ℕ) → Asks line (asked.set node value) → ⊥
+-- The line asks for no change.
+abbrev pub IsNoChange : List ℕ → Type 0
+IsNoChange line = (change : Change) → AsksFor line change → ⊥
 
-asks_for_none : (line : List ℕ) → IsNoSet line → (change : Change) → AsksFor line change → ⊥
-asks_for_none line none (set_value p value) asks = none p.node value asks
-asks_for_none line none (kill p) asks = asks
+pub accepts_no_change : (line reply : List ℕ) → IsNoChange line → Accepts line reply None
+accepts_no_change line reply none = λ ok change asks. none change asks
 
-pub accepts_no_set : (line reply : List ℕ) → IsNoSet line → Accepts line reply None
-accepts_no_set line reply none = λ ok change asks. asks_for_none line none change asks
+-- whether a request asks for a change
+abbrev pub is_change : Request → Bool
+is_change (asked.set node value) = true
+is_change (asked.kill node) = true
+is_change other = false
 
-abbrev is_set : Request → Bool
-is_set (asked.set node value) = true
-is_set (asked.get node) = false
-is_set epoch = false
+pub asks_no_change : OneRequest → (line : List ℕ) (request : Request) → is_change request ≡ false → Asks line request
+    → IsNoChange line
+asks_no_change one line request none asks (set_value p value) change =
+    false≢true (sym none ∙ ap is_change (one line request (asked.set p.node value) asks change))
+asks_no_change one line request none asks (kill p) change =
+    false≢true (sym none ∙ ap is_change (one line request (asked.kill p.node) asks change))
 
-pub get_is_no_set : OneRequest → (line : List ℕ) (node : Node) → Asks line (asked.get node) → IsNoSet line
-get_is_no_set one line node asks other value set =
-    false≢true (ap is_set (one line (asked.get node) (asked.set other value) asks set))
-
-pub epoch_is_no_set : OneRequest → (line : List ℕ) → Asks line epoch → IsNoSet line
-epoch_is_no_set one line asks other value set =
-    false≢true (ap is_set (one line epoch (asked.set other value) asks set))
-
-pub bad_is_no_set : (line : List ℕ) → ((request : Request) → Asks line request → ⊥) → IsNoSet line
-bad_is_no_set line none node value set = none (asked.set node value) set
+pub bad_no_change : (line : List ℕ) → ((request : Request) → Asks line request → ⊥) → IsNoChange line
+bad_no_change line none (set_value p value) change = none (asked.set p.node value) change
+bad_no_change line none (kill p) change = none (asked.kill p.node) change
 
 -- ---- answers that refuse
 
--- whether an answer refuses a SET
+-- whether an answer refuses a request
 abbrev pub refuses : Answer → Bool
 refuses (KeyTooLong len) = true
 refuses (ValueTooLong len) = true
@@ -80,6 +81,10 @@ refuses_not_ok TooDeep h = not_ok (answer_text TooDeep) refl
 refuses_not_ok Done h = λ ok. false≢true h
 refuses_not_ok (Value value) h = λ ok. false≢true h
 refuses_not_ok Undefined h = λ ok. false≢true h
+refuses_not_ok (answer.Next next) h = λ ok. false≢true h
+refuses_not_ok End h = λ ok. false≢true h
+refuses_not_ok (Data found) h = λ ok. false≢true h
+refuses_not_ok (answer.Node reference) h = λ ok. false≢true h
 refuses_not_ok (Epoch changes) h = λ ok. false≢true h
 refuses_not_ok BadLine h = λ ok. false≢true h
 
@@ -136,6 +141,10 @@ set_made line node value TnSpent old new asks never = absurd never
 set_made line node value (Full free) old new asks never = absurd never
 set_made line node value (Value other) old new asks never = absurd never
 set_made line node value Undefined old new asks never = absurd never
+set_made line node value (answer.Next next) old new asks never = absurd never
+set_made line node value End old new asks never = absurd never
+set_made line node value (Data found) old new asks never = absurd never
+set_made line node value (answer.Node reference) old new asks never = absurd never
 set_made line node value (Epoch changes) old new asks never = absurd never
 set_made line node value BadLine old new asks never = absurd never
 
@@ -149,22 +158,78 @@ set_or_refused line node value answer old new (Some first) refuse asks is =
     none_made line answer old new
     (accepts_refused line answer (ap refuses is.0 ∙ refuse first refl)) is.1
 
+-- Nothing is there to take: the change counts and the map stays.
+nothing_taken : (line : List ℕ) (node : Node) (answer : Answer) (old new : State) → Asks line (asked.kill node)
+    → data_of old.map node ≡ 0 → answer ≡ Done → new ≡ record old { changes = old.changes + 1 }
+    → IsMade line answer old new
+nothing_taken line node answer old new asks none done counts =
+    let p : Place = record { node = node; right = asks.form.2.is_node } in record {
+      change = Some (kill p);
+      accepts = (ap answer_text done, asks);
+      map_is = ap (λ s. s.map) counts ∙ sym (nothing_killed old.map p none);
+      changes_are = ap (λ s. s.changes) counts;
+    }
+
+kill_or_spent : (line : List ℕ) (node : Node) (answer : Answer) (old new : State) (spent : Bool)
+    → Asks line (asked.kill node)
+    → MatchBool spent ((answer ≡ TnSpent) × (new ≡ old)) ((answer ≡ Done) × KillsNode node old new)
+    → IsMade line answer old new
+kill_or_spent line node answer old new true asks is =
+    none_made line answer old new (accepts_refused line answer (ap refuses is.0)) is.1
+kill_or_spent line node answer old new false asks is = record {
+  change = Some (kill is.1.place);
+  accepts = (ap answer_text is.0, subst (λ n. Asks line (asked.kill n)) (sym is.1.node_is) asks);
+  map_is = is.1.map_is;
+  changes_are = is.1.changes_are;
+}
+
+kill_made : (line : List ℕ) (node : Node) (answer : Answer) (old new : State) (nothing spent : Bool)
+    → eqb (data_of old.map node) 0 ≡ nothing → Asks line (asked.kill node)
+    → MatchBool nothing ((answer ≡ Done) × (new ≡ record old { changes = old.changes + 1 }))
+    (MatchBool spent ((answer ≡ TnSpent) × (new ≡ old)) ((answer ≡ Done) × KillsNode node old new))
+    → IsMade line answer old new
+kill_made line node answer old new true spent none asks is =
+    nothing_taken line node answer old new asks (eqb-true (data_of old.map node) 0 none) is.0 is.1
+kill_made line node answer old new false spent some asks is = kill_or_spent line node answer old new spent asks is
+
+kill_or_long : (line : List ℕ) (node : Node) (answer : Answer) (old new : State) (long : Bool)
+    → Asks line (asked.kill node)
+    → MatchBool long ((answer ≡ long_key node) × (new ≡ old)) (AnswersKill node old answer new)
+    → IsMade line answer old new
+kill_or_long line node answer old new true asks is =
+    none_made line answer old new (accepts_refused line answer (ap refuses is.0)) is.1
+kill_or_long line node answer old new false asks is =
+    kill_made line node answer old new (eqb (data_of old.map node) 0) (leb (2 ^ 63) (fields_of old.image).tn) refl asks
+    is
+
+question_made : OneRequest → (line : List ℕ) (request : Request) (answer : Answer) (old new : State)
+    → is_change request ≡ false → Asks line request → new ≡ old → IsMade line answer old new
+question_made one line request answer old new none asks same =
+    none_made line answer old new
+    (accepts_no_change line (answer_text answer) (asks_no_change one line request none asks)) same
+
 request_made : OneRequest → (line : List ℕ) (request : Request) (answer : Answer) (old new : State)
     → Asks line request → Answers request old answer new → IsMade line answer old new
 request_made one line (asked.set node value) answer old new asks is =
     set_or_refused line node value answer old new
     (refusal (fields_of old.image) (length (key_bytes node)) (length value))
     (refusal_refuses (fields_of old.image) (length (key_bytes node)) (length value)) asks is
+request_made one line (asked.kill node) answer old new asks is =
+    kill_or_long line node answer old new (is_long node old) asks is
 request_made one line (asked.get node) answer old new asks is =
-    none_made line answer old new
-    (accepts_no_set line (answer_text answer) (get_is_no_set one line node asks)) is.1
+    question_made one line (asked.get node) answer old new refl asks is.1
+request_made one line (asked.order node first) answer old new asks is =
+    question_made one line (asked.order node first) answer old new refl asks is.1
+request_made one line (asked.data_of node) answer old new asks is =
+    question_made one line (asked.data_of node) answer old new refl asks is.1
+request_made one line (asked.query node) answer old new asks is =
+    question_made one line (asked.query node) answer old new refl asks is.1
 request_made one line epoch answer old new asks is =
-    none_made line answer old new
-    (accepts_no_set line (answer_text answer) (epoch_is_no_set one line asks)) is.1
+    question_made one line epoch answer old new refl asks is.1
 
 pub step_made : OneRequest → (line : List ℕ) (answer : Answer) (old new : State) → Steps old line answer new
     → IsMade line answer old new
 step_made one line answer old new (inl is) = request_made one line is.0 answer old new is.1 is.2
 step_made one line answer old new (inr is) =
     none_made line answer old new
-    (accepts_no_set line (answer_text answer) (bad_is_no_set line is.0)) is.2
+    (accepts_no_change line (answer_text answer) (bad_no_change line is.0)) is.2

@@ -2,19 +2,32 @@
 use Rattle.std.proofs.Common.{◌≡◌, ℕ, zero, suc, ◌+◌, ◌*◌, ◌/◌, ◌%◌, ◌^◌, ◌<◌, ◌≤◌, Bool, true, false, cond, eqb, ltb}
 use Rattle.std.proofs.Common.{List, [], ◌∷◌, ◌++◌, length, map, flat_map, drop, codes, refl, sym, ap, ◌∙◌, arith}
 use Rattle.std.proofs.Common.{⊎_elim, pow-suc}
-use Rattle.std.proofs.lemmas.Bool.{false≢true, ne_eqb, cases_lt}
+use Rattle.std.proofs.lemmas.Bool.{and_parts, false≢true, ne_eqb, cases_lt}
 use Rattle.std.proofs.lemmas.Fmt.{decimal_is_IsNumeral, decimal_is_IsNumeral_wide, length-decimal-le}
 use Rattle.std.specs.Fmt.{decimal, digit_glyph, digits, digits_onto}
 use Rattle.std.specs.Str.Parse.{digits_value}
-use Rattle.m_text.specs.Front.{leads}
-use Rattle.m_text.specs.Grammar.{Piece, Word, c, char, coded, doubled, joined, piece_text, quoted, word_text, zch}
-use Rattle.m_text.specs.Grammar.{zchar}
-use Rattle.m_text.specs.Written.{is_printable, led_by, pieces_of, run_of, runs_of, value_text}
+use Rattle.std.specs.Char.{is_ascii_alphabetic, is_ascii_alphanumeric}
+use Rattle.std.specs.List.{All, list_all}
+use Rattle.std.specs.Prelude.{◌||◌}
+use Rattle.std.proofs.lemmas.List.Elements.{All-head, All-tail}
+use Rattle.m_number.specs.Text.{text_of}
+use Rattle.m_key.specs.Node.{IsNode, IsSubscript, Node, NodeSubscript, is_word, number, string}
+use Rattle.m_key.specs.Reference.{is_node, is_subscript, name_bytes, node_of, node_subscript_of}
+use Rattle.m_text.specs.Front.{is_number_byte, leads}
+use Rattle.m_text.specs.Grammar.{Piece, Word, c, char, coded, doubled, joined, piece_text, quoted, reference_form}
+use Rattle.m_text.specs.Grammar.{word_text, zch, zchar}
+use Rattle.m_text.specs.Written.{is_printable, led_by, pieces_of, reference_text, run_of, runs_of, subscript_text}
+use Rattle.m_text.specs.Written.{value_text}
 use Rattle.m_text.specs.Written.{decimal as code_digits}
+use Rattle.m_text.proofs.NumberLemmas.{number_bytes}
+use Rattle.gds_globals.specs.Questions.{next_of}
+use Rattle.gds_globals.specs.declared.questions.Next.{Next}
+use Rattle.gds_globals.specs.declared.questions.Next.TheVariants as next
 use Rattle.gds_script.specs.declared.answer.Answer.{Answer}
-use Rattle.gds_script.specs.declared.answer.Answer.TheVariants.{BadLine, Done, Epoch, Full, KeyTooLong, TnSpent}
-use Rattle.gds_script.specs.declared.answer.Answer.TheVariants.{TooDeep, Undefined, Value, ValueTooLong}
-use Rattle.gds_script.specs.Answer.{answer_text}
+use Rattle.gds_script.specs.declared.answer.Answer.TheVariants.{BadLine, Data, Done, End, Epoch, Full, KeyTooLong}
+use Rattle.gds_script.specs.declared.answer.Answer.TheVariants.{TnSpent, TooDeep, Undefined, Value, ValueTooLong}
+use Rattle.gds_script.specs.declared.answer.Answer.TheVariants as answer
+use Rattle.gds_script.specs.Answer.{answer_text, next_text}
 
 -- no byte 10 is in it
 abbrev pub IsOneLine : List ℕ → Type 0
@@ -160,6 +173,59 @@ unfolding value_text
 value_one_line value =
     joined_one_line 95 refl (map piece_text (pieces_of value)) (pieces_one_line (pieces_of value) (pieces_plain value))
 
+-- ---- references
+
+passed_one_line : (test : ℕ → Bool) → test 10 ≡ false → (bytes : List ℕ) → list_all test bytes ≡ true
+    → IsOneLine bytes
+passed_one_line test fails [] h = tt
+passed_one_line test fails (b ∷ bytes) h =
+    let both = and_parts (test b) (list_all test bytes) h in (
+      ne_eqb b 10 (λ e. false≢true (sym fails ∙ ap test (sym e) ∙ both.0)),
+      passed_one_line test fails bytes both.1,
+    )
+
+abbrev begins_word : ℕ → Bool
+begins_word b = eqb b 37 || is_ascii_alphabetic b
+
+word_is_one_line : (name : List ℕ) → is_word name ≡ true → IsOneLine name
+word_is_one_line [] h = tt
+word_is_one_line (b ∷ name) h =
+    let both = and_parts (begins_word b) (list_all is_ascii_alphanumeric name) h in (
+      ne_eqb b 10 (λ e. false≢true (ap begins_word (sym e) ∙ both.0)),
+      passed_one_line is_ascii_alphanumeric refl name both.1,
+    )
+
+subscript_one_line : (s : NodeSubscript) → IsSubscript s → IsOneLine (subscript_text s)
+subscript_one_line (number n) right = passed_one_line is_number_byte refl (text_of n) (number_bytes n right)
+subscript_one_line (string text) right = value_one_line text
+
+subscripts_one_line : (ss : List NodeSubscript) → All IsSubscript ss → AreOneLine (map subscript_text ss)
+subscripts_one_line [] right = tt
+subscripts_one_line (s ∷ ss) right = (
+  subscript_one_line s (All-head IsSubscript s ss right),
+  subscripts_one_line ss (All-tail IsSubscript s ss right),
+)
+
+form_one_line : (name : List ℕ) (texts : List (List ℕ)) → IsOneLine name → AreOneLine texts
+    → IsOneLine (reference_form name texts)
+form_one_line name [] h k = (refl, h)
+form_one_line name (text ∷ texts) h k =
+    let list = one_line-append (joined 44 (text ∷ texts)) (41 ∷ []) (joined_one_line 44 refl (text ∷ texts) k)
+    (refl, tt) in (
+      refl,
+      one_line-append name (40 ∷ (joined 44 (text ∷ texts) ++ 41 ∷ [])) h (refl, list),
+    )
+
+reference_one_line : (node : Node) → IsNode node → IsOneLine (reference_text node)
+unfolding reference_text
+reference_one_line node right =
+    form_one_line node.name (map subscript_text node.subscripts) (word_is_one_line node.name right.name.word)
+    (subscripts_one_line node.subscripts right.subscripts)
+
+next_one_line : (next : Next) → IsOneLine (next_text (next_of next))
+next_one_line (next.Name name) = (refl, word_is_one_line (name_bytes name) name.is_name.word)
+next_one_line (next.Subscript s) = subscript_one_line (node_subscript_of s) (is_subscript s)
+
 -- ---- answers
 
 with_number : (word : List ℕ) (n : ℕ) → has_no_end word ≡ true → IsOneLine (word ++ decimal n)
@@ -176,6 +242,14 @@ answer_one_line (Value value) =
     one_line-append (codes "VALUE ") (value_text value.items) (one_line_by_test (codes "VALUE ") refl)
     (value_one_line value.items)
 answer_one_line Undefined = one_line_by_test (codes "UNDEF") refl
+answer_one_line (answer.Next next) =
+    one_line-append (codes "NEXT ") (next_text (next_of next)) (one_line_by_test (codes "NEXT ") refl)
+    (next_one_line next)
+answer_one_line End = one_line_by_test (codes "END") refl
+answer_one_line (Data found) = with_number (codes "DATA ") found refl
+answer_one_line (answer.Node reference) =
+    one_line-append (codes "NODE ") (reference_text (node_of reference)) (one_line_by_test (codes "NODE ") refl)
+    (reference_one_line (node_of reference) (is_node reference))
 answer_one_line (Epoch changes) = with_number (codes "EPOCH ") changes refl
 answer_one_line BadLine = one_line_by_test (codes "BADLINE") refl
 
@@ -185,7 +259,7 @@ pub record IsEpoch (n : ℕ) (answer : Answer) : Type 0 where
   pub is : answer ≡ Epoch changes
   pub digits : decimal n ≡ decimal changes
 
--- no other text begins with an E
+-- no other text begins with an E and a P
 other_first : (n : ℕ) (answer : Answer) → codes "EPOCH " ++ decimal n ≡ answer_text answer
     → leads 69 (answer_text answer) ≡ false → IsEpoch n answer
 other_first n answer e other = absurd (false≢true (sym other ∙ sym (ap (leads 69) e)))
@@ -200,6 +274,10 @@ epoch_of_text n (Full free) e = other_first n (Full free) e refl
 epoch_of_text n TooDeep e = other_first n TooDeep e refl
 epoch_of_text n (Value value) e = other_first n (Value value) e refl
 epoch_of_text n Undefined e = other_first n Undefined e refl
+epoch_of_text n (answer.Next next) e = other_first n (answer.Next next) e refl
+epoch_of_text n End e = absurd (false≢true (sym (ap (λ text. leads 80 (drop 1 text)) e)))
+epoch_of_text n (Data found) e = other_first n (Data found) e refl
+epoch_of_text n (answer.Node reference) e = other_first n (answer.Node reference) e refl
 epoch_of_text n BadLine e = other_first n BadLine e refl
 
 -- ---- one number for one text

@@ -21,7 +21,7 @@ whole_lines bytes = whole_lines_behind [] bytes
 -- The line asks for this change.
 abbrev pub AsksFor : List ℕ → Change → Type 0
 AsksFor line (set_value p value) = Asks line (asked.set p.node value)
-AsksFor line (kill p) = ⊥
+AsksFor line (kill p) = Asks line (asked.kill p.node)
 
 -- The line asks for a change that was answered OK, or there is none.
 abbrev pub Accepts : List ℕ → List ℕ → Option Change → Type 0

@@ -2,7 +2,7 @@ use Rattle.std.proofs.Common.{refl, subst, sym, inr}
 use Rattle.gds_script.specs.declared.answer.Answer.TheVariants.{BadLine}
 use Rattle.gds_run.specs.Progress.{Progress}
 use Rattle.gds_run.proofs.AnsweredLemmas.{unchanged}
-use Rattle.gds_run.proofs.EpochLemmas.{bad_no_epoch}
+use Rattle.gds_script.proofs.EpochLemmas.{bad_no_epoch}
 use Rattle.gds_run.proofs.session.Session.answer_bad_line.Goals as goal
 
 pub returns-clause-run : goal.returns-clause-run

@@ -4,8 +4,8 @@ use Rattle.m_key.specs.Key.{key_bytes}
 use Rattle.m_key.specs.Reference.{node_of, place_of}
 use Rattle.gds_shape.specs.Depth.{IsDeep}
 use Rattle.gds_units.specs.State.{image_of}
-use Rattle.gds_run.proofs.NodeLemmas.{IsDevice, set_failed, set_made}
-use Rattle.gds_run.proofs.node.set_node.Goals as goal
+use Rattle.gds_run.proofs.ChangeLemmas.{IsDevice, set_failed, set_made}
+use Rattle.gds_run.proofs.setting.set_node.Goals as goal
 
 pub returns-in-Ok-clause-answer : goal.returns-in-Ok-clause-answer
 returns-in-Ok-clause-answer g c =

@@ -1,13 +1,12 @@
 ghost use Rattle.std.specs.Prelude.{◌≡◌, false, IfOk};
-ghost use Rattle.gds_units.specs.Reading.{OnlyRead};
 ghost use Rattle.gds_words.specs.Script as asked;
 ghost use Rattle.m_key.specs.Reference.{node_of};
 ghost use Rattle.gds_run.specs.Ending.{EndsAnswering};
-ghost use Rattle.gds_run.specs.Setting.{IsAnswered, IsSetOrRefused, LeavesAfterSet};
+ghost use Rattle.gds_run.specs.Request.{IsMadeOrRefused, LeavesAfterChange};
 
 use crate::error::RunError;
 use gds_base::{Base, BaseError};
-use gds_globals::{get, set};
+use gds_globals::set;
 use gds_script::Answer;
 use host_model::Host;
 use m_key::{Reference, key_len};
@@ -21,8 +20,9 @@ pub(crate) fn set_node<H: Host>(
     value: &[u8],
 ) -> Result<Option<Answer>, RunError>
     requires { base.old.stopped ≡ false }
-    ensures answer { IfOk result (IsSetOrRefused base.old base.new (node_of reference.now) value.now) }
-    ensures leaves { LeavesAfterSet H.told H.moment H.left_since base.old base.new result }
+    ensures answer { IfOk result
+        (IsMadeOrRefused base.old base.new (asked.set (node_of reference.now) value.now)) }
+    ensures leaves { LeavesAfterChange H.told H.moment H.left_since base.old base.new result }
     ensures ends { EndsAnswering H.told H.failures base.old base.new result }
 {
     let _header = base.header();
@@ -40,29 +40,6 @@ pub(crate) fn set_node<H: Host>(
         Err(BaseError::TnSpent) => Ok(Some(Answer::TnSpent)),
         Err(BaseError::Full) => Ok(Some(Answer::Full { free: header.free })),
         Err(BaseError::TooDeep) => Ok(Some(Answer::TooDeep)),
-        Err(error) => Err(error.into()),
-    }
-}
-
-/// What a GET of a node is answered.
-pub(crate) fn value_of<H: Host>(
-    alloc: Global,
-    base: &mut Base<H>,
-    reference: &Reference,
-) -> Result<Answer, RunError>
-    requires { base.old.stopped ≡ false }
-    ensures answer { IfOk result (IsAnswered base.old base.new (asked.get (node_of reference.now))) }
-    ensures read { OnlyRead H.told H.moment H.failures H.left_since base.old base.new }
-    ensures ends { EndsAnswering H.told H.failures base.old base.new result }
-{
-    let _header = base.header();
-    base.hold_told();
-    match get(alloc, base, reference) {
-        Ok(Some(value)) => Ok(Answer::Value { value }),
-        Ok(None) => Ok(Answer::Undefined),
-        Err(BaseError::KeyTooLong) => Ok(Answer::KeyTooLong {
-            len: key_len(reference),
-        }),
         Err(error) => Err(error.into()),
     }
 }
