@@ -1,0 +1,4 @@
+pub mod Range
+pub mod Cut
+pub mod Block
+pub mod Killed
