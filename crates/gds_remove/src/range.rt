@@ -1,5 +1,6 @@
-ghost use Rattle.std.specs.Prelude.{◌≡◌};
-ghost use Rattle.gds_remove.specs.Range.{is_in, range_of};
+ghost use Rattle.std.specs.Prelude.{◌≡◌, ◌+◌, ◌≤◌, ◌↔◌, IsTrue, List, None, Option, ℕ, option_map};
+ghost use Rattle.gds_remove.specs.Range.{IsLeft, Range, TakesPart, bytes_of, ends_left, ends_of, is_in, left_of};
+ghost use Rattle.gds_remove.specs.Range.{range_of};
 
 /// A range of keys: those from a least one on and below another one. Without the least one it begins at the first key,
 /// without the other it ends at the last.
@@ -11,7 +12,9 @@ pub(crate) struct KeyRange<'a> {
 
 impl<'a> KeyRange<'a> {
     /// Whether all keys are in it.
-    pub(crate) fn is_all(&self) -> bool {
+    pub(crate) fn is_all(&self) -> bool
+        ensures { IsTrue result ↔ (range_of self.now ≡ record { low = None; high = None }) }
+    {
         self.low.is_none() && self.high.is_none()
     }
 
@@ -35,7 +38,12 @@ pub(crate) struct RangeLeft<'a> {
 impl<'a> RangeLeft<'a> {
     /// The part of the range in the bounds of the next child, whose keys are below this one; the last child has no such
     /// key, but an empty one. `None` where no key in its bounds is in the range.
-    pub(crate) fn next_part(&mut self, key: &[u8]) -> Option<KeyRange<'a>> {
+    pub(crate) fn next_part(&mut self, key: &[u8]) -> Option<KeyRange<'a>>
+        ensures part { (range : Range) (from : Option (List ℕ)) → IsLeft range from (left_of self.old)
+            → TakesPart range from key.now (left_of self.new) (option_map range_of result) }
+        ensures ends { ends_left (left_of self.new) + ends_of (option_map range_of result)
+            ≤ ends_left (left_of self.old) }
+    {
         if self.is_past || self.is_before(key) {
             return None;
         }
