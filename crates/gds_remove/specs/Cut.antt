@@ -1,5 +1,5 @@
 -- A tree inside another, of which a range of keys is cut out.
-use Rattle.std.specs.Prelude.{◌≡◌, ◌≢◌, ◌≤◌, ℕ, ◌%◌, Bool, true, false, IsTrue, List, [], ◌∷◌, nat_eq, Some}
+use Rattle.std.specs.Prelude.{◌≡◌, ◌≢◌, ◌≤◌, ℕ, Bool, true, false, IsTrue, List, [], ◌∷◌, nat_eq, Some}
 use Rattle.std.specs.List.{IsDistinct}
 use Rattle.gds_bitmap.specs.declared.state.State.TheVariants.{Recycled}
 use Rattle.gds_block.specs.Item.{Item}
@@ -24,7 +24,7 @@ pub record StandsBelow (file : List ℕ) (v : Visit) (level : ℕ) (t : Tree) : 
 
 -- A block that was used and is free stays so.
 abbrev pub KeepsRecycled : List ℕ → List ℕ → Type 0
-KeepsRecycled before after = (n : ℕ) → n % 512 ≢ 0 → state_of before n ≡ Recycled → state_of after n ≡ Recycled
+KeepsRecycled before after = (n : ℕ) → state_of before n ≡ Recycled → state_of after n ≡ Recycled
 
 -- Of some blocks of trees these are left, and the others are free, as used ones. No block is taken.
 pub record Leaves (before after : List ℕ) (old new : List ℕ) : Type 0 where

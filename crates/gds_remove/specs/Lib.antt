@@ -1,3 +1,4 @@
+pub mod Beside
 pub mod Range
 pub mod Cut
 pub mod Block

@@ -19,6 +19,7 @@ use std::alloc::{AllocError, Global};
 
 /// Cuts a range of keys out of the tree below a block of this level, and answers whether no item is left. Then all
 /// other blocks of the tree are free, and the block itself is still busy, whatever its bytes.
+#[cycle(cut)]
 pub(crate) fn cut<H: Host>(
     alloc: Global,
     base: &mut Base<H>,
@@ -29,9 +30,9 @@ pub(crate) fn cut<H: Host>(
 ) -> Result<bool, BaseError>
     requires { IsDraftFor base.old.header draft.old }
     ensures cut { IfOk result (λ empty. Drafts base.old draft.old draft.new
-        (CutsAt n level (range_of range) empty)) }
+        (CutsAt n level (range_of range.entry) empty)) }
     ensures drafts { OnlyWrites H.told H.moment H.failures H.left_since base.old base.new draft.old draft.new
-        (most_written (range_of range) level) }
+        (most_written (range_of range.entry) level) }
     ensures ends { EndsReading (H.failures base.old.host) (H.failures base.new.host)
         (WithDraft base.old draft.old (NoneStands n level)) result }
 {
@@ -55,13 +56,14 @@ pub(crate) fn cut<H: Host>(
             None => false,
         };
         if !is_empty {
-            kept.push(entry)?;
+            keep(&mut kept, entry)?;
         }
     }
     put_children(alloc, base, draft, n, level, count, kept)
 }
 
 // Cuts a range out of the tree of a child, and frees the child's block too where nothing is left.
+#[cycle(cut)]
 fn prune<H: Host>(
     alloc: Global,
     base: &mut Base<H>,
@@ -99,6 +101,12 @@ fn put_children<H: Host>(
         put_left(alloc, base, draft, n, level, &kept)?;
     }
     Ok(false)
+}
+
+// Keeps one entry more.
+fn keep(kept: &mut Vec<Entry>, entry: Entry) -> Result<(), AllocError> {
+    kept.push(entry)?;
+    Ok(())
 }
 
 // Makes the last of entries the star.
