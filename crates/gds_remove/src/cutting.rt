@@ -34,9 +34,9 @@ pub(crate) fn cut<H: Host>(
 ) -> Result<bool, BaseError>
     requires { IsDraftFor base.old.header draft.old }
     ensures cut { IfOk result (λ empty. Drafts base.old draft.old draft.new
-        (CutsAt n level (range_of range) empty)) }
+        (CutsAt n level (range_of range.entry) empty)) }
     ensures drafts { OnlyWrites H.told H.moment H.failures H.left_since base.old base.new draft.old draft.new
-        (most_written (range_of range) level) }
+        (most_written (range_of range.entry) level) }
     ensures ends { EndsReading (H.failures base.old.host) (H.failures base.new.host)
         (WithDraft base.old draft.old (NoneStands n level)) result }
 {
@@ -132,6 +132,12 @@ fn put_children<H: Host>(
     star_last(&mut kept)?;
     put_left(alloc, base, draft, n, level, &kept)?;
     Ok(false)
+}
+
+// Keeps one entry more.
+fn keep(kept: &mut Vec<Entry>, entry: Entry) -> Result<(), AllocError> {
+    kept.push(entry)?;
+    Ok(())
 }
 
 // Makes the last of entries the star.

@@ -22,7 +22,7 @@ pub(crate) fn cut_leaf<H: Host>(
     range: KeyRange<'_>,
 ) -> Result<bool, BaseError>
     requires { IsDraftFor base.old.header draft.old }
-    ensures cut { IfOk result (λ empty. Drafts base.old draft.old draft.new (CutsAt n 0 (range_of range) empty)) }
+    ensures cut { IfOk result (λ empty. Drafts base.old draft.old draft.new (CutsAt n 0 (range_of range.entry) empty)) }
     ensures drafts { OnlyWrites H.told H.moment H.failures H.left_since base.old base.new draft.old draft.new 1 }
     ensures ends { EndsReading (H.failures base.old.host) (H.failures base.new.host)
         (WithDraft base.old draft.old (NoneStands n 0)) result }
