@@ -1,1 +1,4 @@
 pub mod LeavesLemmas
+pub mod WritesLemmas
+pub mod NodeLemmas
+pub mod FreeingLemmas
