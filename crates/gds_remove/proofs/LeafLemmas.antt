@@ -36,6 +36,10 @@ no_leaf_none file n none v t same s =
     let p = by_leaf file v t i s.number.within s.sound in
     none v p.es same i p.has
 
+pub may_put_same : (h g : Header) (level : ℕ) (es : List Item) → g.block_size ≡ h.block_size → MayPut h level es
+    → MayPut g level es
+may_put_same h g level es same m = record { packable = m.packable; fits = omega (arith, same, m.fits) }
+
 module _ (before : List ℕ) (range : Range) (es : List Item) where
   abbrev left : List Item
   left = left_by range es
@@ -111,7 +115,7 @@ module _ (before : List ℕ) (range : Range) (es : List Item) where
           (subst (λ k. entries.IsLawful k v 0 left) (sym fields)
           (left_lawful (λ e. not (is_in range e.key)) (fields_of before) v es some (lawful_at before v 0 es has)))
           put.fits (subst (IsDueLevel v.level) has.level has.right.head.level)
-          (omega (arith, has.right.head.stamped.past, ap (λ (k : Header). k.tn) fields)) (omega arith)
+          (omega (arith, has.right.head.stamped.tn, ap (λ (k : Header). k.tn) fields)) (omega arith)
 
       pub some_left : LeavesTree before after v 0 t range
       some_left = record {
