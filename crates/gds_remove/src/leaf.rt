@@ -29,6 +29,7 @@ pub(crate) fn cut_leaf<H: Host>(
     ensures ends { EndsReading (H.failures base.old.host) (H.failures base.new.host)
         (WithDraft base.old draft.old (NoneStands n 0)) result }
 {
+    base.hold_draft(draft);
     let mut entries = read_level(alloc, base, draft, n, 0)?;
     let count = entries.len();
     retain_outside(&mut entries, &range);
