@@ -5,3 +5,4 @@ mod TrailLemmas
 mod SideLemmas
 mod FoundLemmas
 mod ValueLemmas
+mod RecordLemmas

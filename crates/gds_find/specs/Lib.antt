@@ -1,3 +1,4 @@
 pub mod Trail
 pub mod Turn
 pub mod Found
+pub mod Next

@@ -3,11 +3,15 @@
 
 mod finding;
 mod laws;
+mod next_entry;
+mod record;
 mod trail;
 mod turning;
 mod value;
 
 pub use finding::find;
 pub use laws::{items_at_trail, items_beside};
+pub use next_entry::next;
+pub use record::{FoundRecord, record_at};
 pub use trail::{Step, Trail};
 pub use value::value_at;
