@@ -6,3 +6,7 @@ mod SideLemmas
 mod FoundLemmas
 mod ValueLemmas
 mod RecordLemmas
+mod StartLemmas
+mod ForkLemmas
+pub mod BranchLemmas
+mod NextLemmas

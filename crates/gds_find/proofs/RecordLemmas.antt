@@ -1,18 +1,20 @@
 -- What is read of the record of an entry of a packed block.
-use Rattle.std.proofs.Common.{◌≡◌, ℕ, zero, suc, ◌+◌, ◌-◌, ◌<◌, Bool, true, false, List, [], ◌∷◌, ◌++◌, length, take, drop}
-use Rattle.std.proofs.Common.{Option, None, Some, ◌⊎◌, inl, inr, refl, sym, ap, subst, ◌∙◌, arith, append_assoc}
+use Rattle.std.proofs.Common.{◌≡◌, ℕ, zero, suc, ◌+◌, ◌-◌, ◌<◌, Bool, true, false}
+use Rattle.std.proofs.Common.{List, [], ◌∷◌, ◌++◌, length, take, drop}
+use Rattle.std.proofs.Common.{Option, None, Some, ◌⊎◌, inl, inr, refl, sym, ap, ◌∙◌, arith, append_assoc}
 use Rattle.std.proofs.Common.{length-append, length-drop, length-take}
 use Rattle.std.specs.Prelude.{option_map}
 use Rattle.std.proofs.lemmas.Bool.{true≢false}
 use Rattle.std.proofs.lemmas.List.{drop_all, drop_at, take-append-drop, take_at}
 use Rattle.gds_block.specs.Item.{Item}
-use Rattle.gds_pack.specs.Packable.{AreIndex, AreLeaves, ArePackable, IsNext}
-use Rattle.gds_pack.specs.Packed.{key_behind, packed_record, packed_size, record_size}
+use Rattle.gds_pack.specs.Packable.{AreIndex, AreLeaves, ArePackable}
+use Rattle.gds_pack.specs.Packed.{key_behind, packed_record, packed_size}
 use Rattle.gds_pack.proofs.ReadLemmas.{IsBefore, length-body, neighbours}
 use Rattle.gds_pack.proofs.SizeLemmas.{records_size-append}
 use Rattle.gds_tree.proofs.ListLemmas.{index_front, leaves_left, leaves_right}
 use Rattle.m_key.specs.KeyEnd.{IsKey, end_within, key_len, key_within, shared}
-use Rattle.m_key.proofs.KeyEndLemmas.{key_len-append, key_len-take_less, key_len-take_more, key_within-end_within, shared-le, shared-nil}
+use Rattle.m_key.proofs.KeyEndLemmas.{key_len-append, key_len-take_less, key_len-take_more, key_within-end_within}
+use Rattle.m_key.proofs.KeyEndLemmas.{shared-le}
 
 -- The entry is the star of an index block.
 pub record IsStar (height : ℕ) (own : Item) : Type 0 where

@@ -22,10 +22,10 @@ use Rattle.gds_tree.proofs.TestLemmas.{below_most, less_below, most_from}
 use Rattle.m_key.specs.Key.{AtMost, Below}
 use Rattle.gds_find.specs.Trail.{HoldsKey}
 
-abbrev AllBelow : List ℕ → List Item → Type 0
+abbrev pub AllBelow : List ℕ → List Item → Type 0
 AllBelow key items = AllByRecursion (λ (e : Item). Below e.key key) items
 
-abbrev AllAbove : List ℕ → List Item → Type 0
+abbrev pub AllAbove : List ℕ → List Item → Type 0
 AllAbove key items = AllByRecursion (λ (e : Item). Below key e.key) items
 
 -- ---- the bounds above
@@ -160,13 +160,13 @@ module _ (image : List ℕ) (i : IsImage image) (key : List ℕ) where
         first (e ∷ es) leaves each =
             first_above level a.visit.low e.key (each.0.key (some_key e.key leaves.0.is_key)).above
 
-    left_below : AllBelow key a.left.items
+    pub left_below : AllBelow key a.left.items
     left_below =
         items_below a.visit level a.visit.low [] a.front a.left front.leaves
         (all_left (IsLawfulEntry (fields_of image) a.visit (suc level)) a.front (a.entry ∷ a.back) lawful)
         (none_above key a.visit.low [] a.front front.leaves low) is.left
 
-    right_above : AllAbove key a.right.items
+    pub right_above : AllAbove key a.right.items
     right_above =
         behind a.back front.rest
         (all_right (IsLawfulEntry (fields_of image) a.visit (suc level)) a.front (a.entry ∷ a.back) lawful).1 is.right

@@ -1,5 +1,6 @@
 -- What a trail says of the items of the tree that it goes down in.
-use Rattle.std.specs.Prelude.{◌≡◌, ◌+◌, ◌≤◌, ℕ, Bool, true, false, All, Contains, List, [], ◌∷◌, ◌++◌, Option, None, Some, Result}
+use Rattle.std.specs.Prelude.{◌≡◌, ◌+◌, ◌≤◌, ℕ, Bool, true, false, All, Contains, List, [], ◌∷◌, ◌++◌}
+use Rattle.std.specs.Prelude.{Option, None, Some, Result}
 use Rattle.host_model.specs.Failures.{Failures}
 use Rattle.host_model.specs.Files.{Contents}
 use Rattle.gds_base.specs.Ending.{EndsReading}

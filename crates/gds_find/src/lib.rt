@@ -2,9 +2,11 @@
 #![tactic(auto)]
 
 mod finding;
+mod forking;
 mod laws;
 mod next_entry;
 mod record;
+mod start;
 mod trail;
 mod turning;
 mod value;

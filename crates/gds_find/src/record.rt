@@ -56,15 +56,15 @@ pub fn record_at<'a>(block: &'a [u8], offset: usize, front: &[u8]) -> Option<Fou
     })
 }
 
-// A record as it stands: how many bytes of its key it leaves out, and what stands behind that.
+/// A record as it stands: how many bytes of its key it leaves out, and what stands behind that.
 #[derive(Clone, Copy)]
-struct PackedRecord<'a> {
-    count: usize,
-    body: &'a [u8],
+pub(crate) struct PackedRecord<'a> {
+    pub(crate) count: usize,
+    pub(crate) body: &'a [u8],
 }
 
-// The record that begins at an offset, if it ends within the bytes.
-fn packed_at(block: &[u8], at: usize) -> Option<PackedRecord<'_>>
+/// The record that begins at an offset, if it ends within the bytes.
+pub(crate) fn packed_at(block: &[u8], at: usize) -> Option<PackedRecord<'_>>
     ensures found { (r : Record) → IsBlock block.now → StandsIn block.now r → r.offset ≡ at
         → IsSomeAnd result (λ x. (x.count ≡ r.count) × (x.body.now ≡ r.body)) }
     ensures within { IfSome result (λ x. at + 4 + length x.body.now ≤ length block.now) }

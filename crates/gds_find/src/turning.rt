@@ -58,8 +58,8 @@ pub(crate) fn turn_in(bytes: &[u8], due: Option<u8>, key: &[u8]) -> Option<Turn>
     })
 }
 
-// Whether a block may have a level where this one is due: a root, of which none is, has one from 1 to 7.
-fn is_due(due: Option<u8>, level: u8) -> bool
+/// Whether a block may have a level where this one is due: a root, of which none is, has one from 1 to 7.
+pub(crate) fn is_due(due: Option<u8>, level: u8) -> bool
     ensures { IsTrue result ↔ IsDueLevel due level }
 {
     match due {
