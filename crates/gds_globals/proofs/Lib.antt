@@ -15,3 +15,11 @@ mod DeepLemmas
 mod CrashLemmas
 mod CommittingLemmas
 mod DifferLemmas
+mod LeastLemmas
+mod RangeLemmas
+mod PastLemmas
+mod SelectLemmas
+mod FirstLemmas
+mod NextNameLemmas
+mod LookingLemmas
+mod AnswerLemmas

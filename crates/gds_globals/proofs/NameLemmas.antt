@@ -24,7 +24,7 @@ use Rattle.gds_globals.specs.Node.{name_key}
 abbrev pub bare : List ℕ → Node
 bare name = record { name = name; subscripts = [] }
 
-bare_right : (name : List ℕ) → IsName name → IsNode (bare name)
+pub bare_right : (name : List ℕ) → IsName name → IsNode (bare name)
 bare_right name is = record { name = is; count = omega arith; subscripts = All-from_recursion IsSubscript [] tt }
 
 -- It has this key.

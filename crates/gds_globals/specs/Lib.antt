@@ -5,3 +5,4 @@ pub mod Planting
 pub mod Ready
 pub mod Deep
 pub mod Questions
+pub mod First

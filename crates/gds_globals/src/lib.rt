@@ -4,6 +4,8 @@
 mod asking;
 mod committing;
 mod laws;
+mod levels;
+mod looking;
 mod planting;
 mod questions;
 mod ready;
