@@ -2,8 +2,10 @@
 use Rattle.std.proofs.Common.{get_or, inl, inr, suc, is_eq, length-take, ◌&&◌}
 use Rattle.m_key.specs.Collation.{reference_cmp}
 use Rattle.m_key.specs.KeyEnd.{key_len}
-use Rattle.std.proofs.Common.{◌≡◌, ℕ, ◌+◌, ◌-◌, ◌<◌, ◌≤◌, Bool, true, false, List, [], ◌∷◌, ◌++◌, length, take, flat_map}
-use Rattle.std.proofs.Common.{Option, None, Some, refl, sym, ap, ap₂, subst, ◌∙◌, arith, append-nil, append_assoc, length-append}
+use Rattle.std.proofs.Common.{◌≡◌, ℕ, ◌+◌, ◌-◌, ◌<◌, ◌≤◌, Bool, true}
+use Rattle.std.proofs.Common.{false, List, [], ◌∷◌, ◌++◌, length, take, flat_map}
+use Rattle.std.proofs.Common.{Option, None, Some, refl, sym, ap}
+use Rattle.std.proofs.Common.{ap₂, subst, ◌∙◌, arith, append-nil, append_assoc, length-append}
 use Rattle.std.specs.Prelude.{All, if◌then◌else◌, is_some, option_and_then, option_map, slice_get}
 use Rattle.std.specs.Option.{ForSome}
 use Rattle.std.specs.declared.ops.Bound.{Bound}
@@ -169,7 +171,8 @@ module _ (told : Option (List ℕ)) (r : Reference) where
       ∙ ap (option_and_then (subscript_of (length (above n).subscripts)))
       (selected m n.name past.0 (lead_bytes (above n))
       (λ p. is_under (above n) p.node && is_behind last.last (length (above n).subscripts) p)
-      (behind_node n right (above n) last.last (is_below n right some) (above_right n right some) past.0 past.1) o first)
+      (behind_node n right (above n) last.last (is_below n right some) (above_right n right some) past.0 past.1) o
+      first)
       ∙ ap (λ l. option_and_then (subscript_of l) o) count ∙ sym next_is
 
   -- the next name
@@ -200,8 +203,8 @@ module _ (told : Option (List ℕ)) (r : Reference) where
       let second = subst (λ f. IsFirstNode m n.name (Excluded (key_bytes n)) f (option_map place_of b)) front_is
       (subst (λ k. IsFirstNode m n.name (Excluded k) front (option_map place_of b)) key_is (hb image is m st)) in
       let own = any_found (λ p. is_eq (reference_cmp n p.node)) (places_of m)
-      ∙ ap is_some (selected m n.name (Included (key_bytes n)) (key_bytes n) _ (own_node n right) (option_map place_of a)
-      first) ∙ some_placed a in
+      ∙ ap is_some (selected m n.name (Included (key_bytes n)) (key_bytes n) _ (own_node n right)
+      (option_map place_of a) first) ∙ some_placed a in
       let below = any_found (λ p. is_under n p.node) (places_of m)
       ∙ ap is_some (selected m n.name (Excluded (key_bytes n)) (lead_bytes n) _ (below_node n right)
       (option_map place_of b) second) ∙ some_placed b in

@@ -184,12 +184,14 @@ module _ (file : List ℕ) (i : IsImage file) (d : Tree) (globals : List Tree) (
       behind : (from : Bound (List ℕ)) (e : Item) → IsFirstFor t.items from e → (n : Node) → key_bytes n ≡ e.key
           → AreBehind m p.node.name from n
       behind from e f n key = λ q there name.
-          let x = is_there q there name in
-          (x.is_key, elim (before_or_behind t.items from e (tree_rises file (global_root root p.node.name) t found) f
-              (with_key q.node x.value) x.there) [
-            | inl before ↦ inl before
-            | inr most ↦ inr (subst (λ k. AtMost k (key_bytes q.node)) (sym key) most)
-          ])
+          let x = is_there q there name in (
+            x.is_key,
+            elim (before_or_behind t.items from e (tree_rises file (global_root root p.node.name) t found) f
+                (with_key q.node x.value) x.there) [
+                  | inl before ↦ inl before
+                  | inr most ↦ inr (subst (λ k. AtMost k (key_bytes q.node)) (sym key) most)
+                ],
+          )
 
       pub first_node : (from : Bound (List ℕ)) (front : List ℕ) (o : Option Reference)
           → IsFirstUnder t.items from front (option_map node_of o)
@@ -211,8 +213,13 @@ module _ (file : List ℕ) (i : IsImage file) (d : Tree) (globals : List Tree) (
       first_node from front None (inr (e, f, other)) =
           let in_tree = first_in t.items from e f in
           let n = item_node keys_are_nodes file small d globals s e (tree_all p root leads t found e in_tree) in
-          inr (n.node, n.right, subst (IsFrom from) (sym n.is) f.from_there,
-            (λ begins. other (subst (Begins front) n.is begins)), behind from e f n.node n.is)
+          inr (
+            n.node,
+            n.right,
+            subst (IsFrom from) (sym n.is) f.from_there,
+            (λ begins. other (subst (Begins front) n.is begins)),
+            behind from e f n.node n.is,
+          )
 
   pub are_of_nodes : AreBytes file → (p : Place) (root : ℕ)
       → (leads : IsRootOf d.items (name_key p.node.name) (Some root)) (t : Tree)

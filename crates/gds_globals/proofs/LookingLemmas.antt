@@ -1,5 +1,6 @@
 -- What is known of a node that is looked for in the image with an empty draft.
-use Rattle.std.proofs.Common.{◌≡◌, ℕ, ◌<◌, true, false, Bool, List, [], Option, None, Some, Result, Ok, Err, inl, inr, refl, sym}
+use Rattle.std.proofs.Common.{◌≡◌, ℕ, ◌<◌, true, false, Bool, List, [], Option}
+use Rattle.std.proofs.Common.{None, Some, Result, Ok, Err, inl, inr, refl, sym}
 use Rattle.std.proofs.Common.{drop, eqb, length, subst}
 use Rattle.std.specs.List.{starts_with}
 use Rattle.std.proofs.lemmas.Bool.Decides.{Decides-eqb}
@@ -59,8 +60,7 @@ module _ (told : Option (List ℕ)) (d : DraftState) (root : ℕ) (from : Bound 
       one_from : (o : Option Reference) → IfSome o (λ r. (key_bytes (node_of r) ≡ e.key) × Begins front e.key)
           → IfNone o (Begins front e.key → ⊥) → InTree (λ items. IsFirstUnder items from front (option_map node_of o))
       one_from (Some r) some none image is v has =
-          let same : e ≡ with_key (node_of r) e.rest = λ j. record { key = sym some.0 j; rest = e.rest } in
-          (
+          let same : e ≡ with_key (node_of r) e.rest = λ j. record { key = sym some.0 j; rest = e.rest } in (
             e.rest,
             subst (IsFirstFor has.tree.items from) same (first_there image is v has),
             subst (Begins front) (sym some.0) some.1,
@@ -171,7 +171,8 @@ module _ (told : Option (List ℕ)) (d : DraftState) (empty : ForSome told (λ i
   -- ---- in the directory
 
   module _ (key : List ℕ) (same : key ≡ name_key p.node.name) (whole : IsWhole (Excluded key)) where
-    abbrev in_names : (image : List ℕ) (is : told ≡ Some image) → HasTreeFrom (drafted d image) directory_root 1 None (Excluded key)
+    abbrev in_names : (image : List ℕ) (is : told ≡ Some image)
+        → HasTreeFrom (drafted d image) directory_root 1 None (Excluded key)
     in_names image is =
         let f = faultless image is in
         let e = empty image is in
@@ -202,4 +203,5 @@ module _ (told : Option (List ℕ)) (d : DraftState) (empty : ForSome told (λ i
         by (Some image) is =
             let f = faultless image is in
             absurd (h image is directory_root (in_names image is)
-            (entries_are_nodes image (whole_image image d (empty image is)) f.directory f.globals f.sound (small image is)))
+            (entries_are_nodes image (whole_image image d (empty image is)) f.directory f.globals f.sound
+            (small image is)))

@@ -2,7 +2,8 @@
 use Rattle.std.proofs.Common.{Bool, false, Option, None, Some, Result, Ok, Err}
 use Rattle.std.specs.Prelude.{IfOk, option_map}
 use Rattle.std.specs.Option.{ForSome}
-use Rattle.std.proofs.Common.{◌≡◌, ℕ, zero, suc, ◌+◌, ◌-◌, ◌<◌, ◌≤◌, true, true≢false, List, [], ◌∷◌, ◌++◌, length, take, drop}
+use Rattle.std.proofs.Common.{◌≡◌, ℕ, zero, suc, ◌+◌, ◌-◌, ◌<◌, ◌≤◌}
+use Rattle.std.proofs.Common.{true, true≢false, List, [], ◌∷◌, ◌++◌, length, take, drop}
 use Rattle.std.proofs.Common.{◌⊎◌, inl, inr, Equal, refl, sym, ap, subst, ◌∙◌, arith, flat_map}
 use Rattle.std.proofs.Common.{append_assoc, append-nil, length-append, is_lt, is_le}
 use Rattle.std.specs.Prelude.{slice_index}
@@ -60,8 +61,8 @@ few (zero ∷ []) h = inr refl
 few (zero ∷ zero ∷ []) h = absurd (true≢false (sym h))
 few (zero ∷ zero ∷ x ∷ xs) h = absurd (true≢false (sym h))
 few (zero ∷ suc n ∷ xs) h =
-    absurd (true≢false (sym (ap (λ o. is_lt (ordering_then o (cmp xs []))) (sym (nat_cmp_greater (suc n) 0 (omega arith)))
-    ∙ h)))
+    absurd (true≢false (sym (ap (λ o. is_lt (ordering_then o (cmp xs [])))
+    (sym (nat_cmp_greater (suc n) 0 (omega arith))) ∙ h)))
 few (suc n ∷ xs) h =
     absurd (true≢false (sym (ap (λ o. is_lt (ordering_then o (cmp xs (0 ∷ []))))
     (sym (nat_cmp_greater (suc n) 0 (omega arith))) ∙ h)))
@@ -86,7 +87,8 @@ no_such_key front key rest is_key e h = by h (two_zeros key is_key.whole)
     by (inr one) (f, zeros) =
         let same : (front ++ 1 ∷ []) ++ 0 ∷ [] ≡ (f ++ 0 ∷ []) ++ 0 ∷ [] =
         sym (e ∙ ap (λ l. (front ++ 1 ∷ []) ++ l) one) ∙ zeros ∙ sym (append_assoc f (0 ∷ []) (0 ∷ [])) in
-        absurd (omega (arith, last_same front f 1 0 (append_cancel_right (front ++ 1 ∷ []) (f ++ 0 ∷ []) (0 ∷ []) same)))
+        let shorter = append_cancel_right (front ++ 1 ∷ []) (f ++ 0 ∷ []) (0 ∷ []) same in
+        absurd (omega (arith, last_same front f 1 0 shorter))
 
 -- A key behind all that a node leads to stands at such a bound or behind it.
 pub past_to : (r : Node) (from : Bound (List ℕ)) → IsPast r from → (key : List ℕ) → IsKey key
@@ -95,8 +97,8 @@ past_to r (Included least) is key is_key high =
     subst (λ l. AtMost l key) (sym is) (elim (one_or_other (past_bytes r ++ 0 ∷ 0 ∷ []) key) [
       | inl e ↦ e
       | inr k ↦
-        let s = squeezed (past_bytes r) key (0 ∷ 0 ∷ []) high k in
-        absurd (no_such_key (take (length (lead_bytes r) - 1) (lead_bytes r)) key s.0 is_key s.1 (few s.0 s.2))
+          let s = squeezed (past_bytes r) key (0 ∷ 0 ∷ []) high k in
+          absurd (no_such_key (take (length (lead_bytes r) - 1) (lead_bytes r)) key s.0 is_key s.1 (few s.0 s.2))
     ])
 past_to r (Excluded below) is key is_key high =
     subst (λ l. Below l key) (sym is.0) (below_most (key_bytes r) (past_bytes r) key (key_below_past r) high)
@@ -128,13 +130,13 @@ past_from r right (Excluded below) is q is_key there =
     elim (one_or_other (past_bytes r) (key_bytes q.node)) [
       | inl e ↦ e
       | inr k ↦
-        let above : Below (key_bytes r) (key_bytes q.node) = subst (λ l. Below l (key_bytes q.node)) is.0 there in
-        let leads = keys.between_leads numbers r q.node right q.right
-        (most_from (key_bytes r) (key_bytes q.node) (inl (below_less (key_bytes r) (key_bytes q.node) above))) k in
-        elim (longer_key r q.node leads leads.subscripts.0 (keys.lead-begins r q.node leads)) [
-          | inl same ↦ absurd (not_itself (key_bytes r) (subst (Below (key_bytes r)) (sym same) above))
-          | inr long ↦ absurd (omega (arith, long, is.1, is_key.short))
-        ]
+          let above : Below (key_bytes r) (key_bytes q.node) = subst (λ l. Below l (key_bytes q.node)) is.0 there in
+          let leads = keys.between_leads numbers r q.node right q.right
+          (most_from (key_bytes r) (key_bytes q.node) (inl (below_less (key_bytes r) (key_bytes q.node) above))) k in
+          elim (longer_key r q.node leads leads.subscripts.0 (keys.lead-begins r q.node leads)) [
+            | inl same ↦ absurd (not_itself (key_bytes r) (subst (Below (key_bytes r)) (sym same) above))
+            | inr long ↦ absurd (omega (arith, long, is.1, is_key.short))
+          ]
     ]
 past_from r right Unbounded is q is_key there = absurd is
 

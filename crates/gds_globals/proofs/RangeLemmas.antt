@@ -20,7 +20,8 @@ use Rattle.m_number.specs.Bytes.{bytes_of}
 use Rattle.gds_sound.specs.Questions.{is_under, is_behind}
 use Rattle.gds_globals.specs.First.{Begins}
 use Rattle.gds_sound.proofs.OrderLemmas.{cmp, cmp_exact}
-use Rattle.gds_tree.proofs.TestLemmas.{at_most, below_less, below_most, less_below, less_from, most_below, most_cases, most_from}
+use Rattle.gds_tree.proofs.TestLemmas.{at_most, below_less, below_most, less_below}
+use Rattle.gds_tree.proofs.TestLemmas.{less_from, most_below, most_cases, most_from}
 
 -- ---- keys
 
@@ -68,8 +69,8 @@ pub under_in_range : (a p : Node) → IsNode a → IsNode p → is_under a p ≡
 under_in_range a p r s h =
     let both = and_parts (is_led a p) (nat_lt (length a.subscripts) (length p.subscripts)) h in
     let leads = keys.led_leads numbers a p r s both.0 in
-    let more : length a.subscripts < length p.subscripts = ltb-true (length a.subscripts) (length p.subscripts) both.1 in
-    (
+    let more : length a.subscripts < length p.subscripts =
+    ltb-true (length a.subscripts) (length p.subscripts) both.1 in (
       elim (most_cases (key_bytes a) (key_bytes p) (keys.leads_between numbers a p leads).0) [
         | inl e ↦ less_below (key_bytes a) (key_bytes p) e
         | inr e ↦ absurd (omega (arith, ap (λ (n : Node). length n.subscripts) (keys.one_key numbers a p r s e)))
@@ -216,8 +217,11 @@ module _ (a r : Node) (last : NodeSubscript) (is : IsBelow a r last) (ra : IsNod
       let same : last ≡ t = ties last t last_right (t_right t h) e in
       let leads : Leads r p = record {
         name = h.leads.name ∙ sym is.name;
-        subscripts = (h.more, h.parts ∙ ap (λ s. a.subscripts ++ s ∷ h.more) (sym same)
-            ∙ sym (append_assoc a.subscripts (last ∷ []) h.more) ∙ ap (λ ss. ss ++ h.more) (sym is.subscripts));
+        subscripts = (
+          h.more,
+          h.parts ∙ ap (λ s. a.subscripts ++ s ∷ h.more) (sym same)
+              ∙ sym (append_assoc a.subscripts (last ∷ []) h.more) ∙ ap (λ ss. ss ++ h.more) (sym is.subscripts),
+        );
       } in
       absurd (not_both (past_bytes r) (key_bytes p) high (keys.leads_between numbers r p leads).1)
   lower high t h Greater e =
@@ -249,4 +253,3 @@ module _ (a r : Node) (last : NodeSubscript) (is : IsBelow a r last) (ra : IsNod
           (keys.leads_led numbers a p ra leads) (is_longer a p (t ∷ more) e (λ none. absurd (cc none))) in
           and_from (is_under a p) (is_behind last (length a.subscripts) q) under
           (behind_is t h ∙ lower high t h (subscript_cmp last t) refl)
-

@@ -1,6 +1,7 @@
 -- What a question finds among the places of a map is the first node from a bound on, if its key begins with a front.
 use Rattle.std.proofs.Common.{◌≡◌, ℕ, Bool, true, false, ◌&&◌, List, [], ◌∷◌, length, map, T}
-use Rattle.std.proofs.Common.{append-nil, ◌⊎◌, inl, inr, Option, None, Some, Less, refl, sym, ap, subst, ◌∙◌, is_lt, is_eq}
+use Rattle.std.proofs.Common.{append-nil, ◌⊎◌, inl, inr, Option, None, Some}
+use Rattle.std.proofs.Common.{Less, refl, sym, ap, subst, ◌∙◌, is_lt, is_eq}
 use Rattle.std.specs.Prelude.{bytes_eq, find}
 use Rattle.std.specs.FinMap.{entries, entries_sorted}
 use Rattle.std.specs.FinMap.Entries.{is_sorted, below_all}
@@ -162,18 +163,20 @@ module _ (r : Node) (right : IsNode r) where
   pub own_node : Selects r.name (Included (key_bytes r)) (key_bytes r) (λ p. is_eq (reference_cmp r p.node))
   own_node = record {
     own = λ q pass. ap (λ (n : Node). n.name) (sym (keys.one_key numbers r q.node right q.right (is_own q pass)));
-    range = λ q _ pass. (most_from (key_bytes r) (key_bytes q.node) (inr (is_own q pass)),
-      begins_itself (key_bytes q.node) (is_own q pass));
+    range = λ q _ pass. (
+      most_from (key_bytes r) (key_bytes q.node) (inr (is_own q pass)),
+      begins_itself (key_bytes q.node) (is_own q pass),
+    );
     back = λ q _ own there begins.
         ap is_eq (sym (same_order q) ∙ ap (λ n. cmp (key_bytes r) (key_bytes n)) (sym (begun_by q begins))
         ∙ cmp-same (key_bytes r));
     convex = λ n rn q there most begins.
         begins_itself (key_bytes n) (
-          let high = subst (λ x. AtMost (key_bytes n) (key_bytes x)) (sym (begun_by q begins)) most in
-          elim (most_cases (key_bytes r) (key_bytes n) there) [
-            | inl less ↦ absurd (not_both (key_bytes n) (key_bytes r) high (ap is_lt less))
-            | inr same ↦ same
-          ]
+        let high = subst (λ x. AtMost (key_bytes n) (key_bytes x)) (sym (begun_by q begins)) most in
+        elim (most_cases (key_bytes r) (key_bytes n) there) [
+          | inl less ↦ absurd (not_both (key_bytes n) (key_bytes r) high (ap is_lt less))
+          | inr same ↦ same
+        ]
         );
   }
 

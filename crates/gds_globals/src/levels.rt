@@ -51,7 +51,10 @@ pub(crate) fn next_subscript<H: Host>(
     ensures ends { EndsReading (H.failures base.old.host) (H.failures base.new.host) (image_of base.old ≡ None) result }
 {
     let found = node_past(alloc, base, reference, key, front_of(key))?;
-    Ok(next_at(found, reference.subscripts.as_slice().len().saturating_sub(1)))
+    Ok(next_at(
+        found,
+        reference.subscripts.as_slice().len().saturating_sub(1),
+    ))
 }
 
 // The subscript of this level in a node that was found.
@@ -81,7 +84,8 @@ pub(crate) fn next_name<H: Host>(
     let draft = base.draft(alloc);
     base.hold_draft(&draft);
     let key = directory_key(&reference.name);
-    let Some(found) = first_under(alloc, base, &draft, DIRECTORY, Bound::Excluded(&key), &[])? else {
+    let Some(found) = first_under(alloc, base, &draft, DIRECTORY, Bound::Excluded(&key), &[])?
+    else {
         return Ok(None);
     };
     Ok(Some(Next::Name(found.name)))

@@ -1,4 +1,5 @@
-ghost use Rattle.std.specs.Prelude.{◌≡◌, ◌<◌, ◌-◌, ◌∷◌, ◌++◌, ◌≤◌, ℕ, [], All, IfNone, IfOk, IfSome, List, None, length, option_map, take};
+ghost use Rattle.std.specs.Prelude.{◌≡◌, ◌<◌, ◌-◌, ◌∷◌, ◌++◌, ◌≤◌, ℕ, []};
+ghost use Rattle.std.specs.Prelude.{All, IfNone, IfOk, IfSome, List, None, length, option_map, take};
 ghost use Rattle.std.specs.Option.{ForSome};
 ghost use Rattle.std.specs.Range.Bound.{bound_map};
 ghost use Rattle.host_model.specs.Failures.{Failures};
@@ -11,7 +12,8 @@ ghost use Rattle.gds_units.specs.State.{image_of};
 ghost use Rattle.m_key.specs.Key.{key_bytes};
 ghost use Rattle.m_key.specs.KeyEnd.{IsKey};
 ghost use Rattle.m_key.specs.Reference.{node_of, place_of};
-ghost use Rattle.gds_globals.specs.First.{AreOfNodes, Begins, FindsFirst, FindsPast, IsFirstUnder, IsKeyOfNode, IsWhole};
+ghost use Rattle.gds_globals.specs.First.{AreOfNodes, Begins, FindsFirst};
+ghost use Rattle.gds_globals.specs.First.{FindsPast, IsFirstUnder, IsKeyOfNode, IsWhole};
 
 use crate::asking::root_of;
 use gds_base::{Base, BaseError};

@@ -89,7 +89,14 @@ fn data_of_key<H: Host>(
         return Ok(0);
     };
     let own = first_under(alloc, base, &draft, root, Bound::Included(key), key)?;
-    let below = first_under(alloc, base, &draft, root, Bound::Excluded(key), lead_of(key))?;
+    let below = first_under(
+        alloc,
+        base,
+        &draft,
+        root,
+        Bound::Excluded(key),
+        lead_of(key),
+    )?;
     Ok(data_of(own.is_some(), below.is_some()))
 }
 

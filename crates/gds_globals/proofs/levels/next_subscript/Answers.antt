@@ -13,7 +13,8 @@ returns-clause-next g c =
     let count = length-map (subscript_list r.subscripts) node_subscript_of in
     let some = subst (λ (k : ℕ). 0 < k) (sym count) c.requires.some in
     next_answer (image_of c.args.base.now) r some c.front_of.result.now
-    (front_is (node_of r) (place_of r).right some c.args.key.now c.front_of.result.now c.requires.key c.front_of.ensures)
+    (front_is (node_of r) (place_of r).right some c.args.key.now c.front_of.result.now c.requires.key
+    c.front_of.ensures)
     (option_map place_of c.in_ok-found.found) c.in_ok-found.ensures.first c.saturating_sub.result
     (c.saturating_sub.ensures ∙ ap (λ k. k - 1) (ap length c.as_slice.ensures.items ∙ sym count))
     (option_map next_of c.next_at.result) c.next_at.ensures

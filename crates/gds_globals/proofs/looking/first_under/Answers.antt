@@ -19,20 +19,23 @@ returns-in_err-next-clause-ends g c =
 
 pub returns-then-not-branch-clause-first : goal.returns-then-not-branch-clause-first
 returns-then-not-branch-clause-first g c =
-    none_from (image_of c.args.base.now) c.args.draft.now c.args.root (bound_map (λ (key : Bor (List ℕ)). key.now) c.args.from) c.args.front.now c.in_ok-next.field-0
+    let from = bound_map (λ (key : Bor (List ℕ)). key.now) c.args.from in
+    none_from (image_of c.args.base.now) c.args.draft.now c.args.root from c.args.front.now c.in_ok-next.field-0
     (item c.next.new.entry) c.in_ok-next.ensures.next c.if-not-branch.true
 
 pub returns-clause-first : goal.returns-clause-first
 returns-clause-first g c =
-    ones_from (image_of c.args.base.now) c.args.draft.now c.args.root (bound_map (λ (key : Bor (List ℕ)). key.now) c.args.from) c.args.front.now c.in_ok-next.field-0
+    let from = bound_map (λ (key : Bor (List ℕ)). key.now) c.args.from in
+    ones_from (image_of c.args.base.now) c.args.draft.now c.args.root from c.args.front.now c.in_ok-next.field-0
     (item c.next.new.entry) c.in_ok-next.ensures.next c.if-not-branch.false c.deref.result.now c.deref.ensures.0
     c.node_under.result c.node_under.ensures.some c.node_under.ensures.none
 
 pub returns-clause-ends : goal.returns-clause-ends
 returns-clause-ends g c =
+    let from = bound_map (λ (key : Bor (List ℕ)). key.now) c.args.from in
     let h = g.H.Host in
     let now = h.failures c.next.new.base.host in
     ended (h.failures c.args.base.now.host) now now _ _ c.next.ensures.read.read.failures
-    (odd_from (image_of c.args.base.now) c.args.draft.now c.args.root (bound_map (λ (key : Bor (List ℕ)). key.now) c.args.from) c.args.front.now c.in_ok-next.field-0
+    (odd_from (image_of c.args.base.now) c.args.draft.now c.args.root from c.args.front.now c.in_ok-next.field-0
     (item c.next.new.entry) c.in_ok-next.ensures.next c.if-not-branch.false c.deref.result.now c.deref.ensures.0)
     c.node_under.result (c.node_under.ensures.ends now now)

@@ -28,6 +28,7 @@ returns-in_err-root-clause-ends g c =
 
 pub returns-in_default-clause-first : goal.returns-in_default-clause-first
 returns-in_default-clause-first g c =
+    let from = bound_map (λ (key : Bor (List ℕ)). key.now) c.args.from in
     let told = image_of c.args.base.now in
     let draft = c.draft-draft.result in
     let empty = empty_of told draft c.args.base.now.header c.draft-draft.ensures.header c.draft-draft.ensures.none
@@ -35,7 +36,7 @@ returns-in_default-clause-first g c =
     let faultless = c.header-header.ensures.faultless in
     let p = place_of c.args.reference.now in
     nowhere_first told draft empty faultless c.header-header.ensures.bytes p
-    (subst (Directory told draft empty faultless p) c.in_default.is c.in_ok-root.ensures.root) (bound_map (λ (key : Bor (List ℕ)). key.now) c.args.from) c.args.front.now
+    (subst (Directory told draft empty faultless p) c.in_default.is c.in_ok-root.ensures.root) from c.args.front.now
 
 pub returns-clause-first : goal.returns-clause-first
 returns-clause-first g c =

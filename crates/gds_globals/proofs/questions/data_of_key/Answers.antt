@@ -72,7 +72,8 @@ returns-in_err-own-clause-ends g c =
 pub returns-in_err-below-clause-read : goal.returns-in_err-below-clause-read
 returns-in_err-below-clause-read g c =
     let h = g.H.Host in
-    OnlyRead-then h.told h.moment h.failures h.left_since c.args.base.now c.first_under.new.base c.first_under-2.new.base
+    OnlyRead-then h.told h.moment h.failures h.left_since c.args.base.now c.first_under.new.base
+    c.first_under-2.new.base
     (OnlyRead-then h.told h.moment h.failures h.left_since c.args.base.now c.root_of.new.base c.first_under.new.base
     c.root_of.ensures.read c.first_under.ensures.read) c.first_under-2.ensures.read
 
