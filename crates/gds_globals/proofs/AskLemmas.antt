@@ -176,7 +176,7 @@ module _ (told : Option (List ℕ)) (d : DraftState) (empty : ForSome told (λ i
       With told d (λ file. (t : Tree) → tree_at file directory_root ≡ Some t
       → IsRootOf t.items (name_key p.node.name) root)
 
-  in_directory : (image : List ℕ) (is : told ≡ Some image) (root : Option ℕ) → Directory root
+  pub in_directory : (image : List ℕ) (is : told ≡ Some image) (root : Option ℕ) → Directory root
       → IsRootOf (faultless image is).directory.items (name_key p.node.name) root
   in_directory image is root h =
       let f = faultless image is in

@@ -53,7 +53,7 @@ one_item (x ∷ xs) r a b (inr i) (inl f) same = absurd (never x a (ap (λ (w : 
     never : (x b : Item) → x.key ≡ b.key → key_cmp x b ≡ Less → ⊥
     never x b e less = cc (cmp-same x.key)
 
-zip_in : {A B : Type 0} (R : A → B → Type 0) (xs : List A) (ys : List B) → AllZip R xs ys → (x : A) → IsIn xs x
+pub zip_in : {A B : Type 0} (R : A → B → Type 0) (xs : List A) (ys : List B) → AllZip R xs ys → (x : A) → IsIn xs x
     → (y : B) × R x y
 zip_in R [] ys h x i = absurd i
 zip_in R (z ∷ xs) [] h x i = absurd h
@@ -66,11 +66,11 @@ some_same s t e = cc
 -- ---- one tree
 
 module _ (file : List ℕ) (i : IsImage file) where
-  items_at : (v : Visit) (t : Tree) → v.block < (fields_of file).total → tree_at file v ≡ Some t
+  pub items_at : (v : Visit) (t : Tree) → v.block < (fields_of file).total → tree_at file v ≡ Some t
       → AreItems (fields_of file) v t.items
   items_at v t low found = items_of_tree file i (level_of (block_of file v.block)) v t low found
 
-  whole_key : (v : Visit) (t : Tree) → v.block < (fields_of file).total → tree_at file v ≡ Some t
+  pub whole_key : (v : Visit) (t : Tree) → v.block < (fields_of file).total → tree_at file v ≡ Some t
       → (e : Item) → IsIn t.items e → IsKey e.key
   whole_key v t low found e there = keys_whole [] t.items (items_at v t low found).leaves e there
 
@@ -112,7 +112,7 @@ entry_of p rest = record { key = name_key p.node.name; rest = rest }
 
 module _ (file : List ℕ) (i : IsImage file) (d : Tree) (globals : List Tree) (s : IsSound file d globals) (p : Place)
   where
-    root_is : (rest : List ℕ) (root : ℕ) → u32_at rest 0 ≡ root
+    pub root_is : (rest : List ℕ) (root : ℕ) → u32_at rest 0 ≡ root
         → root_of (entry_of p rest) ≡ global_root root p.node.name
     root_is rest root e =
         ap (λ n. global_root n (name_part (name_key p.node.name))) e

@@ -25,3 +25,11 @@ mod TakingLemmas
 mod KillReadyLemmas
 mod BesideLemmas
 mod KillEndingLemmas
+mod LeastLemmas
+mod RangeLemmas
+mod PastLemmas
+mod SelectLemmas
+mod FirstNodeLemmas
+mod NextNameLemmas
+mod LookingLemmas
+mod AnswerLemmas

@@ -7,3 +7,4 @@ pub mod Deep
 pub mod Questions
 pub mod Kill
 pub mod Killing
+pub mod First

@@ -5,6 +5,8 @@ mod asking;
 mod committing;
 mod killing;
 mod laws;
+mod levels;
+mod looking;
 mod planting;
 mod questions;
 mod ready;
