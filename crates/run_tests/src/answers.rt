@@ -107,44 +107,6 @@ fn lines_have_their_answers(rt: HostRuntime) -> Result<(), Fail> {
 }
 
 #[test]
-fn kills_and_questions_have_their_answers(rt: HostRuntime) -> Result<(), Fail> {
-    for (label, script, said) in [
-        (
-            "a global whose name begins another's",
-            &b"SET ^A=\"1\"\nSET ^A(1)=\"2\"\nSET ^A(1,2)=\"3\"\nSET ^AB=\"4\"\nDATA ^A(1)\nORDER ^A\nQUERY ^A\n\
-                KILL ^A\nDATA ^A\nGET ^AB\nKILL ^A\n"[..],
-            &b"OK\nOK\nOK\nOK\nDATA 11\nNEXT ^AB\nNODE ^A(1)\nOK\nDATA 0\nVALUE \"4\"\nOK\nEPOCH 6\n"[..],
-        ),
-        (
-            "the last nodes of a global go",
-            b"SET ^A(1)=\"x\"\nSET ^A(2)=\"y\"\nKILL ^A(1)\nORDER ^A(\"\")\nORDER ^A(2)\nQUERY ^A\nKILL ^A\nORDER ^%\n",
-            b"OK\nOK\nOK\nNEXT 2\nEND\nNODE ^A(2)\nOK\nEND\nEPOCH 4\n",
-        ),
-        (
-            "a new database",
-            b"ORDER ^A(\"\")\nORDER ^%\nDATA ^A\nQUERY ^A\nKILL ^A\n",
-            b"END\nEND\nDATA 0\nEND\nOK\nEPOCH 1\n",
-        ),
-        (
-            "null subscripts elsewhere",
-            b"KILL ^A(\"\")\nDATA ^A(\"\")\nQUERY ^A(\"\")\nORDER ^A(\"\",1)\n",
-            b"BADLINE\nBADLINE\nBADLINE\nBADLINE\nEPOCH 0\n",
-        ),
-    ] {
-        assert_first(
-            &rt,
-            &HUNDRED,
-            Row {
-                label,
-                script,
-                said,
-            },
-        )?;
-    }
-    Ok(())
-}
-
-#[test]
 fn a_later_run_finds_what_was_set(rt: HostRuntime) -> Result<(), Fail> {
     let mut host = new_database(rt.alloc(), &HUNDRED)?;
     for (label, script, said) in [

@@ -45,6 +45,11 @@ fn kills_and_questions_are_answered(rt: HostRuntime) -> Result<(), Fail> {
             b"OK\nOK\nNEXT ^B\nNEXT ^B\nEND\nOK\nEND\nEPOCH 3\n",
         ),
         (
+            "null subscripts where none may stand",
+            b"KILL ^A(\"\")\nDATA ^A(\"\")\nQUERY ^A(\"\")\nORDER ^A(\"\",1)\n",
+            b"BADLINE\nBADLINE\nBADLINE\nBADLINE\nEPOCH 0\n",
+        ),
+        (
             "what was killed is set again",
             b"SET ^A(1)=1\nKILL ^A\nGET ^A(1)\nSET ^A(1)=2\nGET ^A(1)\nEPOCH\n",
             b"OK\nOK\nUNDEF\nOK\nVALUE \"2\"\nEPOCH 3\nEPOCH 3\n",
