@@ -2,9 +2,9 @@
 
 use crate::blind::BlindHost;
 use crate::trouble::Trouble;
-use gds_base::Base;
+use gds_base::{Base, BaseError};
 use gds_block::{BlockView, pointer_of};
-use gds_find::{Trail, find};
+use gds_find::{Scan, Trail, find};
 use gds_law::Fault;
 use gds_pack::{Entry, unpack};
 use integ::{ListSink, integ};
@@ -51,6 +51,30 @@ pub(crate) fn check_nodes(
     } else {
         Err(Trouble::Differs(left.len()))
     }
+}
+
+/// Finds these nodes in a scan of a tree, and no others.
+pub(crate) fn check_scan(
+    alloc: Global,
+    base: &mut Base<BlindHost>,
+    root: u32,
+    nodes: &[Entry],
+) -> Result<(), Trouble> {
+    let mut scan = Scan::new(alloc, root);
+    for node in nodes {
+        if !scan_on(alloc, base, &mut scan)? || scan.entry() != node {
+            return Err(Trouble::Differs(nodes.len()));
+        }
+    }
+    if scan_on(alloc, base, &mut scan)? {
+        return Err(Trouble::Differs(nodes.len()));
+    }
+    Ok(())
+}
+
+fn scan_on(alloc: Global, base: &mut Base<BlindHost>, scan: &mut Scan) -> Result<bool, BaseError> {
+    let draft = base.draft(alloc);
+    scan.next(base, &draft)
 }
 
 /// The level of a block.

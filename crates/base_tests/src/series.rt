@@ -1,6 +1,6 @@
 //! Series of changes of a tree, with a check now and then.
 
-use crate::checks::{check_nodes, check_sound, is_deep, level_of};
+use crate::checks::{check_nodes, check_scan, check_sound, is_deep, level_of};
 use crate::keys::Keys::{self, Alike, Falling, Long, Mixed, Names, Pairs, Rising};
 use crate::numbers::Numbers;
 use crate::store::{
@@ -203,7 +203,8 @@ fn make_all(alloc: Global, series: &Series, store: &mut Store) -> Result<(u32, u
     Ok((full, too_deep))
 }
 
-/// Makes a database and the changes of a series, makes them durable, and opens the database again.
+/// Makes a database and the changes of a series, makes them durable, and opens the database again, where a scan finds
+/// the nodes too.
 fn run(alloc: Global, series: &Series) -> Result<Ending, Trouble> {
     let mut store = new_store(alloc, series)?;
     let (full, too_deep) = make_all(alloc, series, &mut store)?;
@@ -212,6 +213,7 @@ fn run(alloc: Global, series: &Series) -> Result<Ending, Trouble> {
     let base = reopened(alloc, base)?;
     let mut store = Store { base, root, nodes };
     check(alloc, &mut store)?;
+    check_scan(alloc, &mut store.base, root, &store.nodes)?;
     let level = level_of(alloc, &mut store.base, root)?;
     Ok((level, full, too_deep))
 }
