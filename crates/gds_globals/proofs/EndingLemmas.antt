@@ -53,8 +53,8 @@ asked_last before mid now P Q fell f (Ok x) h = tt
 asked_last {T} before mid now P Q fell f (Err e) h =
     asks {T = T} before now Q (Err e) (later T T before mid now P Q fell f e h)
 
--- The last call's end is that of the whole.
-pub ended : {T : Type 0} (before mid now : Failures) (P Q : Type 0) → NeverFell before mid → (P → Q)
+-- What the last call ends with is passed on.
+pub read_last : {T : Type 0} (before mid now : Failures) (P Q : Type 0) → NeverFell before mid → (P → Q)
     → (r : Result T BaseError) → EndsReading mid now P r → EndsReading before now Q r
-ended before mid now P Q fell f (Ok x) h = tt
-ended {T} before mid now P Q fell f (Err e) h = later T T before mid now P Q fell f e h
+read_last before mid now P Q fell f (Ok x) h = tt
+read_last {T} before mid now P Q fell f (Err e) h = later T T before mid now P Q fell f e h

@@ -2,6 +2,14 @@ pub mod NameLemmas
 pub mod FileLemmas
 mod AskLemmas
 mod EndingLemmas
+mod LeastLemmas
+mod RangeLemmas
+mod PastLemmas
+mod SelectLemmas
+mod FirstNodeLemmas
+mod NextNameLemmas
+mod LookingLemmas
+mod AnswerLemmas
 pub mod SetLemmas
 pub mod NewGlobalLemmas
 mod PlantingLemmas
@@ -15,11 +23,3 @@ mod DeepLemmas
 mod CrashLemmas
 mod CommittingLemmas
 mod DifferLemmas
-mod LeastLemmas
-mod RangeLemmas
-mod PastLemmas
-mod SelectLemmas
-mod FirstLemmas
-mod NextNameLemmas
-mod LookingLemmas
-mod AnswerLemmas

@@ -32,7 +32,7 @@ use Rattle.gds_globals.specs.First.{AreOfNodes, Begins, FindsFirst, IsFirstUnder
 use Rattle.gds_globals.specs.Node.{name_key}
 use Rattle.gds_globals.proofs.AskLemmas.{Directory, IsEmptyOf, With, in_directory, undrafted, whole_image}
 use Rattle.gds_globals.proofs.FileLemmas.{directory_low, global_tree, root_low}
-use Rattle.gds_globals.proofs.FirstLemmas.{are_of_nodes, first_in, first_node, nowhere, with_key}
+use Rattle.gds_globals.proofs.FirstNodeLemmas.{are_of_nodes, first_in, first_node, nowhere, with_key}
 use Rattle.gds_globals.proofs.NextNameLemmas.{entries_are_nodes, next_is}
 
 -- what the code's test says

@@ -32,8 +32,8 @@ use Rattle.gds_tree.proofs.TestLemmas.{less_below, most_cases, most_from}
 use Rattle.gds_globals.specs.First.{AreOfNodes, IsFirstUnder}
 use Rattle.gds_globals.specs.Node.{IsRootOf, name_key}
 use Rattle.gds_globals.proofs.FileLemmas.{entry_key, global_tree, items_at, root_low}
-use Rattle.gds_globals.proofs.FirstLemmas.{all_before, before_or_behind, first_in, item_entry, item_place, place_item}
-use Rattle.gds_globals.proofs.FirstLemmas.{tree_all, tree_name, tree_rises, with_key}
+use Rattle.gds_globals.proofs.FirstNodeLemmas.{all_before, before_or_behind, first_in, item_entry, item_place, place_item}
+use Rattle.gds_globals.proofs.FirstNodeLemmas.{tree_all, tree_name, tree_rises, with_key}
 use Rattle.gds_globals.proofs.LeastLemmas.{IsLeast, found_least}
 use Rattle.gds_globals.proofs.NameLemmas.{bare, bare_key, bare_right, name_of_key}
 use Rattle.gds_globals.proofs.RangeLemmas.{not_both}

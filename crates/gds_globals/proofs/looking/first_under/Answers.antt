@@ -4,7 +4,7 @@ use Rattle.std.proofs.lemmas.Result.{err_from_is_err_and}
 use Rattle.host_model.proofs.FailureLemmas.{NeverFell-refl}
 use Rattle.gds_pack.specs.Entry.{item}
 use Rattle.gds_units.specs.State.{image_of}
-use Rattle.gds_globals.proofs.EndingLemmas.{ended, passed_on}
+use Rattle.gds_globals.proofs.EndingLemmas.{passed_on, read_last}
 use Rattle.gds_globals.proofs.LookingLemmas.{none_from, odd_from, ones_from}
 use Rattle.gds_globals.proofs.looking.first_under.Goals as goal
 
@@ -35,7 +35,7 @@ returns-clause-ends g c =
     let from = bound_map (λ (key : Bor (List ℕ)). key.now) c.args.from in
     let h = g.H.Host in
     let now = h.failures c.next.new.base.host in
-    ended (h.failures c.args.base.now.host) now now _ _ c.next.ensures.read.read.failures
+    read_last (h.failures c.args.base.now.host) now now _ _ c.next.ensures.read.read.failures
     (odd_from (image_of c.args.base.now) c.args.draft.now c.args.root from c.args.front.now c.in_ok-next.field-0
     (item c.next.new.entry) c.in_ok-next.ensures.next c.if-not-branch.false c.deref.result.now c.deref.ensures.0)
     c.node_under.result (c.node_under.ensures.ends now now)

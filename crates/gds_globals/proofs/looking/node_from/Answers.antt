@@ -7,7 +7,7 @@ use Rattle.gds_units.specs.State.{image_of}
 use Rattle.m_key.specs.Reference.{node_of, place_of}
 use Rattle.gds_globals.specs.First.{AreOfNodes, IsFirstUnder}
 use Rattle.gds_globals.proofs.AskLemmas.{Directory, empty_of, never_changed}
-use Rattle.gds_globals.proofs.EndingLemmas.{ended, passed_on}
+use Rattle.gds_globals.proofs.EndingLemmas.{passed_on, read_last}
 use Rattle.gds_globals.proofs.LookingLemmas.{InTree, firsts_told, never_odd, nowhere_first}
 use Rattle.gds_globals.proofs.looking.node_from.Goals as goal
 
@@ -67,7 +67,7 @@ returns-clause-ends g c =
     let from = (bound_map (λ (key : Bor (List ℕ)). key.now) c.args.from) in
     let front = c.args.front.now in
     let leads = subst (Directory told draft empty faultless p) c.in-Some.is c.in_ok-root.ensures.root in
-    ended (h.failures c.args.base.now.host) (h.failures c.root_of.new.base.host)
+    read_last (h.failures c.args.base.now.host) (h.failures c.root_of.new.base.host)
     (h.failures c.first_under.new.base.host) _ _ c.root_of.ensures.read.read.failures
     (λ odd.
     never_odd told draft empty faultless c.header-header.ensures.bytes p c.in-Some.root leads from c.requires front
