@@ -2,6 +2,14 @@ pub mod NameLemmas
 pub mod FileLemmas
 mod AskLemmas
 mod EndingLemmas
+mod LeastLemmas
+mod RangeLemmas
+mod PastLemmas
+mod SelectLemmas
+mod FirstNodeLemmas
+mod NextNameLemmas
+mod LookingLemmas
+mod AnswerLemmas
 pub mod SetLemmas
 pub mod NewGlobalLemmas
 mod PlantingLemmas
@@ -25,11 +33,3 @@ mod TakingLemmas
 mod KillReadyLemmas
 mod BesideLemmas
 mod KillEndingLemmas
-mod LeastLemmas
-mod RangeLemmas
-mod PastLemmas
-mod SelectLemmas
-mod FirstNodeLemmas
-mod NextNameLemmas
-mod LookingLemmas
-mod AnswerLemmas

@@ -4,7 +4,7 @@ use Rattle.std.proofs.lemmas.Result.{err_from_is_err_and}
 use Rattle.host_model.proofs.FailureLemmas.{NeverFell-refl}
 use Rattle.gds_pack.specs.Entry.{item}
 use Rattle.gds_units.specs.State.{image_of}
-use Rattle.gds_globals.proofs.EndingLemmas.{read_last, passed_on}
+use Rattle.gds_globals.proofs.EndingLemmas.{passed_on, read_last}
 use Rattle.gds_globals.proofs.LookingLemmas.{none_from, odd_from, ones_from}
 use Rattle.gds_globals.proofs.looking.first_under.Goals as goal
 

@@ -7,7 +7,7 @@ use Rattle.gds_units.specs.State.{image_of}
 use Rattle.m_key.specs.Reference.{node_of, place_of}
 use Rattle.gds_globals.specs.First.{AreOfNodes, IsFirstUnder}
 use Rattle.gds_globals.proofs.AskLemmas.{Directory, empty_of, never_changed}
-use Rattle.gds_globals.proofs.EndingLemmas.{read_last, passed_on}
+use Rattle.gds_globals.proofs.EndingLemmas.{passed_on, read_last}
 use Rattle.gds_globals.proofs.LookingLemmas.{InTree, firsts_told, never_odd, nowhere_first}
 use Rattle.gds_globals.proofs.looking.node_from.Goals as goal
 
