@@ -6,3 +6,5 @@ pub mod LeftItemsLemmas
 pub mod LeafLemmas
 pub mod EmptyingLemmas
 pub mod KillingLemmas
+pub mod AloneLemmas
+pub mod EditedLemmas
