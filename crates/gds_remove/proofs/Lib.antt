@@ -1,1 +1,3 @@
 pub mod LeavesLemmas
+pub mod KeptLemmas
+pub mod RangeLemmas

@@ -134,12 +134,6 @@ fn put_children<H: Host>(
     Ok(false)
 }
 
-// Keeps one entry more.
-fn keep(kept: &mut Vec<Entry>, entry: Entry) -> Result<(), AllocError> {
-    kept.push(entry)?;
-    Ok(())
-}
-
 // Makes the last of entries the star.
 fn star_last(entries: &mut Vec<Entry>) -> Result<(), AllocError>
     ensures { OnOk result (items entries.new.items ≡ starred (items entries.old.items)) }
