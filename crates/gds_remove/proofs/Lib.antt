@@ -1,3 +1,4 @@
 pub mod LeavesLemmas
 pub mod KeptLemmas
 pub mod RangeLemmas
+pub mod SoFarLemmas
