@@ -4,3 +4,6 @@ pub mod RangeLemmas
 pub mod SoFarLemmas
 pub mod PruneLemmas
 pub mod EndLemmas
+pub mod WritesLemmas
+pub mod NodeLemmas
+pub mod FreeingLemmas

@@ -2,7 +2,7 @@
 use Rattle.std.specs.Prelude.{◌≡◌, ◌≤◌, ◌+◌, ◌%◌, ◌≢◌, ℕ, IsTrue, List, [], ◌∷◌}
 use Rattle.gds_base.specs.declared.error.BaseError.{BaseError}
 use Rattle.gds_base.specs.declared.error.BaseError.TheVariants.{Changed}
-use Rattle.gds_remove.specs.Beside.{blocks_beside_maps}
+use Rattle.gds_base.specs.Spaces.{blocks_beside_maps}
 use Rattle.gds_block.specs.Item.{Item}
 use Rattle.gds_draft.specs.Draft.{DraftState}
 use Rattle.gds_file.specs.FileLaws.{IsLawful}

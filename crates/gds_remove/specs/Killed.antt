@@ -3,7 +3,7 @@ use Rattle.std.specs.Prelude.{◌≡◌, ◌≢◌, ◌≤◌, ◌+◌, ℕ, Boo
 use Rattle.host_model.specs.Failures.{Failures}
 use Rattle.host_model.specs.Files.{Contents}
 use Rattle.std.specs.Prelude.{Option}
-use Rattle.gds_remove.specs.Beside.{blocks_beside_maps}
+use Rattle.gds_base.specs.Spaces.{blocks_beside_maps}
 use Rattle.gds_bitmap.specs.declared.state.State.TheVariants.{Recycled}
 use Rattle.gds_block.specs.Item.{Item}
 use Rattle.gds_draft.specs.Draft.{DraftState}

@@ -1,6 +1,6 @@
-pub mod Beside
 pub mod Range
 pub mod Cut
 pub mod Child
 pub mod Block
 pub mod Killed
+pub mod Emptied

@@ -29,7 +29,8 @@ pub(crate) fn free_below<H: Host>(
     if level == 0 {
         return Ok(());
     }
-    for entry in read_level(alloc, base, draft, n, level)? {
+    let entries = read_level(alloc, base, draft, n, level)?;
+    for entry in &entries {
         let Some(child) = pointer_of(&entry.rest) else {
             return Err(changed(n));
         };

@@ -1,6 +1,7 @@
 ghost use Rattle.std.specs.Prelude.{◌≡◌, ◌+◌, ◌≤◌, ◌↔◌, IsTrue, List, None, Option, false, ℕ, option_map};
 ghost use Rattle.gds_remove.specs.Range.{BeginsBehind, BeginsBelow, EndsBelow, GoesOn, IsLeft, Range};
-ghost use Rattle.gds_remove.specs.Range.{TakesPart, bytes_of, ends_left, ends_of, is_in, left_of, range_of};
+ghost use Rattle.gds_remove.specs.Range.{TakesPart, bytes_of, ends_left, ends_of, is_from, is_in, is_up_to};
+ghost use Rattle.gds_remove.specs.Range.{left_of, range_of};
 
 /// A range of keys: those from a least one on and below another one. Without the least one it begins at the first key,
 /// without the other it ends at the last.
@@ -22,7 +23,27 @@ impl<'a> KeyRange<'a> {
     pub(crate) fn contains(&self, key: &[u8]) -> bool
         ensures { result ≡ is_in (range_of self.now) key.now }
     {
-        self.low.is_none_or(|low| low <= key) && self.high.is_none_or(|high| key < high)
+        is_from(self.low, key) && is_up_to(self.high, key)
+    }
+}
+
+// Whether a key is from a least one on, if there is one.
+fn is_from(low: Option<&[u8]>, key: &[u8]) -> bool
+    ensures { result ≡ is_from (bytes_of low.entry) key.now }
+{
+    match low {
+        Some(low) => !key.cmp(low).is_lt(),
+        None => true,
+    }
+}
+
+// Whether a key is below another one, if there is one.
+fn is_up_to(high: Option<&[u8]>, key: &[u8]) -> bool
+    ensures { result ≡ is_up_to (bytes_of high.entry) key.now }
+{
+    match high {
+        Some(high) => key.cmp(high).is_lt(),
+        None => true,
     }
 }
 

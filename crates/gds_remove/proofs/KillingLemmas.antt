@@ -1,0 +1,161 @@
+-- A range of keys is cut out of the tree of a root.
+use Rattle.std.proofs.Common.{◌≡◌, ◌≢◌, ◌+◌, ◌-◌, ◌<◌, ◌≤◌, ◌%◌, ◌/◌, ◌==◌, ◌&&◌, ◌||◌, ℕ, zero, suc, Bool, true, false}
+use Rattle.std.proofs.Common.{List, [], ◌∷◌, ◌++◌, length, Option, None, Some, refl, sym, ap, ◌∙◌, subst, arith, inl, inr}
+use Rattle.std.specs.Prelude.{IsTrue, MatchBool, nat_eq, nat_lt}
+use Rattle.std.specs.List.{IsDistinct}
+use Rattle.std.proofs.lemmas.Bool.{eq-eqb, ne_eqb, lt-ltb, or_left, or_right}
+use Rattle.gds_bitmap.specs.State.{is_free}
+use Rattle.gds_bitmap.specs.Pairs.{count_below}
+use Rattle.gds_block.specs.Block.{IsBlock, level_of}
+use Rattle.gds_block.specs.Item.{Item}
+use Rattle.gds_header.specs.Fields.{block_of, fields_of}
+use Rattle.gds_law.specs.Visit.{Visit, directory_root}
+use Rattle.gds_sound.specs.Sound.{Tree, joined, sound_tree}
+use Rattle.gds_sound.proofs.CountLemmas.{count, count_append}
+use Rattle.gds_sound.proofs.PathLemmas.{any_counted, counted_any, counts_from_distinct}
+use Rattle.gds_sound.proofs.TreeLemmas.{own_level}
+use Rattle.gds_split.specs.Pieces.{entry_to}
+use Rattle.gds_tree.specs.Below.{HasEntries, index_tree, leaf_tree, trees_below, visit_below}
+use Rattle.gds_tree.specs.Keeps.{IsImage}
+use Rattle.gds_tree.specs.RightBlock.{IsDueLevel}
+use Rattle.gds_tree.proofs.BelowLemmas.{both_parts, first_block}
+use Rattle.gds_tree.proofs.PartLemmas.{lawful_at}
+use Rattle.gds_tree.proofs.TreeByLemmas.{by_index, by_leaf, index_by, leaf_by}
+use Rattle.gds_file.specs.FileLaws.{IsLawful, StandsAt}
+use Rattle.gds_file.specs.FreeLaws.{IsBusy}
+use Rattle.gds_file.specs.Grow.{state_of}
+use Rattle.gds_file.specs.Maps.{has_block}
+use Rattle.gds_file.specs.Rewrite.{AreNoMaps}
+use Rattle.gds_file.proofs.FreeCountLemmas.{count_some, free_by_blocks, is_free_block}
+use Rattle.gds_file.proofs.ReshapeLemmas.{reshapes_compose}
+use Rattle.gds_splice.specs.Parted.{TreeBecomes}
+use Rattle.gds_splice.proofs.CountedLemmas.{distinct_more, same_one}
+use Rattle.gds_splice.proofs.ImageLemmas.{image_of}
+use Rattle.gds_splice.proofs.ToldLemmas.{is_block_at}
+use Rattle.gds_remove.specs.Cut.{Leaves, LeavesNone, LeavesTree, NoneStands, StandsBelow}
+use Rattle.gds_remove.specs.Emptied.{CannotPutEmpty, HasEmptyDirectory, PutsEmptyDirectory}
+use Rattle.gds_remove.specs.Killed.{CannotKill, HasKilled, IsEmptied, IsEmptyDirectory, MayKill}
+use Rattle.gds_remove.specs.Range.{Range}
+use Rattle.gds_remove.proofs.FreeingLemmas.{number_below}
+use Rattle.gds_remove.proofs.LeavesLemmas.{left_are_busy}
+
+-- ---- the root's block
+
+pub record IsRootBlock (file : List ℕ) (v : Visit) : Type 0 where
+  pub low : 1 ≤ level_of (block_of file v.block)
+  pub high : level_of (block_of file v.block) ≤ 7
+  pub block : IsBlock (block_of file v.block)
+
+module _ (file : List ℕ) (v : Visit) (t : Tree) (m : MayKill file v t) where
+  i : IsImage file
+  i = image_of file m.maps
+
+  by_entries : (level : ℕ) (es : List Item) → HasEntries file v level es → IsRootBlock file v
+  by_entries level es has =
+      let due : IsDueLevel None (level_of (block_of file v.block)) =
+      subst (λ due. IsDueLevel due (level_of (block_of file v.block))) m.is_root.level has.right.head.level in
+      record { low = due.0; high = due.1; block = is_block_at file v level es i has }
+
+  by_level : (level : ℕ) → sound_tree file level v ≡ Some t → IsRootBlock file v
+  by_level zero sound =
+      let p = by_leaf file v t i m.is_root.number.within sound in by_entries 0 p.es p.has
+  by_level (suc level) sound =
+      let p = by_index file v level t i m.is_root.number.within sound in by_entries (suc level) p.es p.has
+
+  pub root_block : IsRootBlock file v
+  root_block = by_level (level_of (block_of file v.block)) m.stands.sound
+
+  module _ (root level : ℕ) (same : v.block ≡ root) (is : level_of (block_of file root) ≡ level) where
+    pub root_stands : StandsBelow file v level t
+    root_stands = record {
+      number = m.is_root.number;
+      sound = subst (λ l. sound_tree file l v ≡ Some t) (ap (λ n. level_of (block_of file n)) same ∙ is)
+          m.stands.sound;
+      distinct = m.stands.distinct;
+      busy = m.busy;
+      maps = m.maps;
+    }
+
+pub cannot_by_total : (file : List ℕ) (root : ℕ) → (fields_of file).total ≤ root → CannotKill root file
+cannot_by_total file root past v t same m = omega (arith, m.is_root.number.within, same, past)
+
+pub cannot_by_block : (file : List ℕ) (root : ℕ) → (IsBlock (block_of file root) → ⊥) → CannotKill root file
+cannot_by_block file root none v t same m =
+    none (subst (λ n. IsBlock (block_of file n)) same (root_block file v t m).block)
+
+pub cannot_by_level : (file : List ℕ) (root level : ℕ) → level_of (block_of file root) ≡ level
+    → (1 ≤ level → level ≤ 7 → ⊥) → CannotKill root file
+cannot_by_level file root level is none v t same m =
+    let r = root_block file v t m in
+    let e : level_of (block_of file v.block) ≡ level = ap (λ n. level_of (block_of file n)) same ∙ is in
+    none (omega (arith, r.low, e)) (omega (arith, r.high, e))
+
+pub cannot_cut : (file : List ℕ) (root level : ℕ) → level_of (block_of file root) ≡ level
+    → NoneStands root level file → CannotKill root file
+cannot_cut file root level is none v t same m = none v t same (root_stands file v t m root level same is)
+
+-- ---- what is left
+
+abbrev whole : List ℕ → List ℕ → Range
+whole low high = record { low = Some low; high = Some high }
+
+module _ (before mid : List ℕ) (v : Visit) (level : ℕ) (t : Tree) (m : MayKill before v t)
+    (s : StandsBelow before v level t) (low high : List ℕ) where
+  pub some_killed : LeavesTree before mid v level t (whole low high) → HasKilled before mid v t low high false
+  some_killed left = (left.some, record {
+    tree = left.tree;
+    stands = record { sound = own_level mid level v left.tree left.sound; distinct = left.distinct };
+    items_are = left.items_are;
+    reshapes = left.leaves.reshapes;
+    lawful = left.leaves.lawful;
+  })
+
+  module _ (left : LeavesNone before mid t (whole low high) (v.block ∷ [])) where
+    emptied : IsEmptied before mid v t
+    emptied = record {
+      reshapes = left.leaves.reshapes;
+      recycled = λ n there other. left.leaves.gone n there (ap (λ b. b || false) (ne_eqb n v.block other));
+      lawful = left.leaves.lawful;
+    }
+
+    pub all_killed : v.block ≢ 1 → HasKilled before mid v t low high true
+    all_killed other = (left.none, subst (λ b. MatchBool b (IsEmptyDirectory before mid v t) (IsEmptied before mid v t))
+        (sym (ne_eqb v.block 1 other)) emptied)
+
+    -- the root's block is busy still
+    pub root_busy : IsBusy mid v.block
+    root_busy = record {
+      no_map = s.number.no_map;
+      busy = left_are_busy before mid t.blocks (v.block ∷ []) left.leaves s.busy
+          (λ n there. subst (λ k. k % 512 ≢ 0) (sym (same_one n v.block there)) s.number.no_map) v.block
+          (or_left (nat_eq v.block v.block) false (eq-eqb v.block v.block refl));
+    }
+
+    -- a block below it is free
+    pub freed_is_free : (n : ℕ) → IsTrue (has_block t.blocks n) → n ≢ v.block → 0 < (fields_of mid).free
+    freed_is_free n there other =
+        let recycled : state_of mid n ≡ Recycled = emptied.recycled n there other in
+        let inside : n < (fields_of mid).total =
+        omega (arith, (number_below before v level t s n there).within, left.leaves.reshapes.limits.total) in
+        let free : is_free_block mid n ≡ true =
+        λ k. lt-ltb n (fields_of mid).total inside k && is_free (recycled k) in
+        omega (
+          arith,
+          count_some (is_free_block mid) n (fields_of mid).total inside free,
+          free_by_blocks mid,
+          left.leaves.lawful.maps.count,
+        )
+
+    module _ (after : List ℕ) (is : v.block ≡ 1) (puts : PutsEmptyDirectory mid after) where
+      at_root : v ≡ directory_root
+      at_root = m.directory is
+
+      put : HasEmptyDirectory mid after
+      put = puts left.leaves.lawful (subst (IsBusy mid) is root_busy)
+
+      none_below : Tree
+      none_below = record { blocks = visit_below directory_root 0 directory_root.low (entry_to put.leaf []) .block ∷ []; items = [] }
+
+      pub directory_killed : HasKilled before after v t low high true
+      directory_killed = (left.none, subst (λ b. MatchBool b (IsEmptyDirectory before after v t)
+          (IsEmptied before after v t)) (sym (eq-eqb v.block 1 is)) emptied_directory)

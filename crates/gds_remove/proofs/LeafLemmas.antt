@@ -1,0 +1,127 @@
+-- A leaf of which a range of keys is cut out.
+use Rattle.std.proofs.Common.{◌≡◌, ◌≢◌, ◌+◌, ◌<◌, ◌≤◌, ◌%◌, ◌||◌, ℕ, List, [], ◌∷◌, length, Some}
+use Rattle.std.proofs.Common.{refl, sym, ap, ◌∙◌, subst, arith}
+use Rattle.std.specs.Prelude.{IsTrue, not, nat_eq}
+use Rattle.std.specs.List.{IsDistinct}
+use Rattle.gds_block.specs.Item.{Item}
+use Rattle.gds_header.specs.Fields.{fields_of}
+use Rattle.gds_header.specs.declared.header.Header.{Header}
+use Rattle.gds_law.specs.Visit.{Visit}
+use Rattle.gds_pack.specs.Packed.{packed_size}
+use Rattle.gds_sound.specs.Sound.{Tree, sound_tree}
+use Rattle.gds_tree.specs.Below.{HasEntries, leaf_tree}
+use Rattle.gds_tree.specs.Lawful as entries
+use Rattle.gds_tree.specs.RightBlock.{IsDueLevel}
+use Rattle.gds_tree.proofs.FaultlessLemmas.{written_entries}
+use Rattle.gds_tree.proofs.PartLemmas.{lawful_at}
+use Rattle.gds_tree.proofs.TreeByLemmas.{LeafBy, by_leaf, leaf_by}
+use Rattle.gds_file.specs.Maps.{has_block}
+use Rattle.gds_file.specs.Rewrite.{AreNoMaps}
+use Rattle.gds_file.proofs.RewriteLemmas.{rewrite_keeps_header, rewrite_stays_lawful}
+use Rattle.gds_splice.specs.Divided.{MayPut}
+use Rattle.gds_splice.specs.Writing.{PutsEntries}
+use Rattle.gds_splice.proofs.CountedLemmas.{same_one}
+use Rattle.gds_splice.proofs.ImageLemmas.{image_of}
+use Rattle.gds_remove.specs.Block.{AreEntriesAt, HasNoEntries}
+use Rattle.gds_remove.specs.Cut.{CutsAt, HasCut, Leaves, LeavesNone, LeavesTree, NoneStands, StandsBelow}
+use Rattle.gds_remove.specs.Range.{Range, is_in, left_by}
+use Rattle.gds_remove.proofs.FreeingLemmas.{image_below}
+use Rattle.gds_remove.proofs.LeavesLemmas.{leaves_same, leaves_written}
+use Rattle.gds_remove.proofs.LeftItemsLemmas.{filter_same, left_lawful, left_packed}
+
+-- A leaf that can't be read.
+pub no_leaf_none : (file : List ℕ) (n : ℕ) → HasNoEntries n 0 file → NoneStands n 0 file
+no_leaf_none file n none v t same s =
+    let i = image_below file v 0 t s in
+    let p = by_leaf file v t i s.number.within s.sound in
+    none v p.es same i p.has
+
+module _ (before : List ℕ) (range : Range) (es : List Item) where
+  abbrev left : List Item
+  left = left_by range es
+
+  module _ (v : Visit) (t : Tree) (are : AreEntriesAt v.block 0 es before) (s : StandsBelow before v 0 t) where
+    leaf : LeafBy before v t
+    leaf = by_leaf before v t (image_below before v 0 t s) s.number.within s.sound
+
+    same : leaf.es ≡ es
+    same = sym (are v leaf.es refl (image_below before v 0 t s) leaf.has)
+
+    has : HasEntries before v 0 es
+    has = subst (HasEntries before v 0) same leaf.has
+
+    tree_is : t ≡ leaf_tree v es
+    tree_is = leaf.is ∙ ap (leaf_tree v) same
+
+    only : t.blocks ≡ v.block ∷ []
+    only = ap (λ (u : Tree). u.blocks) tree_is
+
+    items_are : t.items ≡ es
+    items_are = ap (λ (u : Tree). u.items) tree_is
+
+    left_are : left ≡ left_by range t.items
+    left_are = ap (left_by range) (sym items_are)
+
+    stays : Leaves before before t.blocks t.blocks
+    stays = leaves_same before t.blocks s.maps s.busy
+
+    -- none is left
+    pub none_left : left ≡ [] → LeavesNone before before t range (v.block ∷ [])
+    none_left none = record {
+      none = sym left_are ∙ none;
+      leaves = subst (Leaves before before t.blocks) only stays;
+    }
+
+    -- all are left
+    pub all_left : left ≢ [] → length es ≤ length left → LeavesTree before before v 0 t range
+    all_left some long = record {
+      tree = t;
+      sound = s.sound;
+      distinct = s.distinct;
+      items_are = items_are ∙ sym (filter_same (λ e. not (is_in range e.key)) es long) ∙ left_are;
+      some = λ none. some (left_are ∙ none);
+      leaves = stays;
+    }
+
+    -- some are left, and may be put into the block
+    pub left_may : left ≢ [] → MayPut (fields_of before) 0 left
+    left_may some = record {
+      packable = (left_lawful (λ e. not (is_in range e.key)) (fields_of before) v es some
+          (lawful_at before v 0 es has)).packable;
+      fits = omega (
+        arith,
+        left_packed (λ e. not (is_in range e.key)) es,
+        has.right.head.fits,
+      );
+    }
+
+    module _ (some : left ≢ []) (after : List ℕ) (put : PutsEntries before after v.block 0 left) where
+      fields : fields_of after ≡ fields_of before
+      fields = rewrite_keeps_header before after (v.block ∷ []) put.rewrites
+
+      proper : AreNoMaps (v.block ∷ [])
+      proper n there = subst (λ k. k % 512 ≢ 0) (sym (same_one n v.block there)) s.number.no_map
+
+      there_now : HasEntries after v 0 left
+      there_now =
+          let l = rewrite_stays_lawful before after (v.block ∷ []) s.maps put.rewrites proper in
+          let j = image_of after l in
+          let h = ap (λ (k : Header). k.total) fields in
+          written_entries after v 0 0 left j (omega (arith, s.number.within, h)) put.bytes
+          (subst (λ k. entries.IsLawful k v 0 left) (sym fields)
+          (left_lawful (λ e. not (is_in range e.key)) (fields_of before) v es some (lawful_at before v 0 es has)))
+          put.fits (subst (IsDueLevel v.level) has.level has.right.head.level)
+          (omega (arith, has.right.head.stamped.past, ap (λ (k : Header). k.tn) fields)) (omega arith)
+
+      pub some_left : LeavesTree before after v 0 t range
+      some_left = record {
+        tree = leaf_tree v left;
+        sound = leaf_by after v left
+            (image_of after (rewrite_stays_lawful before after (v.block ∷ []) s.maps put.rewrites proper)) there_now;
+        distinct = subst (IsDistinct nat_eq) only s.distinct;
+        items_are = left_are;
+        some = λ none. some (left_are ∙ none);
+        leaves = subst (Leaves before after t.blocks) only
+            (leaves_written before after (v.block ∷ []) t.blocks put.rewrites proper
+            (λ n there. ap (λ bs. has_block bs n) only ∙ there) s.busy s.maps);
+      }
