@@ -11,3 +11,4 @@ pub mod LeftItemsLemmas
 pub mod LeafLemmas
 pub mod EmptyingLemmas
 pub mod KillingLemmas
+pub mod CuttingLemmas
