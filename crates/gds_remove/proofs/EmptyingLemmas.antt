@@ -143,7 +143,7 @@ module _ (before m1 m2 after : List ℕ) (leaf : ℕ) (l : IsLawful before) (is 
       written_entries after directory_root 1 0 (star leaf) j (omega (arith, j.limits.total_from)) top.bytes root_lawful
       top.fits (omega arith, omega arith) (started after lawful) (omega arith)
 
-  below : Visit
+  abbrev below : Visit
   below = visit_below directory_root 0 directory_root.low (entry_to leaf [])
 
   below_is : below.block ≡ leaf
@@ -172,6 +172,7 @@ module _ (before m1 m2 after : List ℕ) (leaf : ℕ) (l : IsLawful before) (is 
   pub emptied : HasEmptyDirectory before after
   emptied = record {
     leaf = leaf;
+    number = number;
     other = other;
     root_has = root_has;
     leaf_has = leaf_has;

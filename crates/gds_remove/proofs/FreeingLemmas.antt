@@ -1,14 +1,17 @@
 -- The blocks of a tree below its root that are freed one child after another.
-use Rattle.std.proofs.Common.{◌≡◌, ◌≢◌, ◌+◌, ◌<◌, ◌≤◌, ◌%◌, ℕ, zero, suc, false, List, [], ◌∷◌, ◌++◌, length, Option, Some}
+use Rattle.std.proofs.Common.{◌≡◌, ◌≢◌, ◌+◌, ◌-◌, ◌<◌, ◌≤◌, ◌%◌, ℕ, zero, suc, false, List, [], ◌∷◌, ◌++◌, length, drop, get_or, Option, Some}
 use Rattle.std.proofs.Common.{refl, sym, ap, ◌∙◌, subst, arith}
 use Rattle.std.specs.Prelude.{nat_eq, IsTrue, All}
 use Rattle.std.specs.List.{AllByRecursion, IsDistinct}
 use Rattle.std.proofs.lemmas.Bool.{or_left, eq-eqb}
+use Rattle.std.proofs.lemmas.List.{drop_all, drop_more}
 use Rattle.std.proofs.lemmas.List.Elements.{All-from_recursion}
 use Rattle.gds_block.specs.Fields.{u32_at}
 use Rattle.gds_block.specs.Item.{Item}
 use Rattle.gds_header.specs.Fields.{block_of, fields_of}
 use Rattle.gds_law.specs.Visit.{Visit}
+use Rattle.gds_pack.specs.Entry.{item, items}
+use Rattle.gds_pack.specs.declared.entry.Entry.{Entry}
 use Rattle.gds_sound.specs.Sound.{Tree, joined, sound_tree}
 use Rattle.gds_sound.proofs.CountLemmas.{count, count_append}
 use Rattle.gds_sound.proofs.PathLemmas.{any_counted, counted_any, counts_from_distinct, distinct_from_counts}
@@ -94,7 +97,7 @@ module _ (before : List ℕ) (v : Visit) (level : ℕ) (t : Tree) (s : StandsBel
         stands = subst (λ l. trees_below before v level v.low l ≡ Some p.below) same p.trees;
         lawful = subst (AllByRecursion (IsLawfulEntry (fields_of before) v (suc level))) same
             (lawful_index before v (suc level) p.es p.has);
-        order = λ n. ap (λ (u : Tree). count n u.blocks) p.is;
+        order = λ n. omega (arith, ap (λ (u : Tree). count n u.blocks) p.is);
         leaves = leaves_same before [] s.maps (λ n there. absurd (cc));
       }
 
@@ -126,13 +129,13 @@ module _ (before : List ℕ) (v : Visit) (level : ℕ) (t : Tree) (s : StandsBel
 
     -- one child more
     module _ (e : Item) (es : List Item) (f : FreesOn before now v level t (e ∷ es)) where
-      c : Visit
+      abbrev pub c : Visit
       c = visit_below v level f.low e
 
-      parts : AreBoth (sound_tree before level c) (trees_below before v level (Some e.key) es) f.rest
+      pub parts : AreBoth (sound_tree before level c) (trees_below before v level (Some e.key) es) f.rest
       parts = both_parts (sound_tree before level c) (trees_below before v level (Some e.key) es) f.rest f.stands
 
-      abbrev child : Tree
+      abbrev pub child : Tree
       child = parts.first
 
       pointer : IsPointer (fields_of before) e.rest
@@ -227,3 +230,78 @@ module _ (before : List ℕ) (v : Visit) (level : ℕ) (t : Tree) (s : StandsBel
                 (leaves_with_more before now f.gone [] child.blocks f.leaves (λ n there. s.busy n (in_tree n there))
                 apart) both_gone;
           }
+
+-- ---- a loop over the entries
+
+-- So far the first children of an index block of a level are freed, and these entries are left.
+abbrev pub FreesSoFar : ℕ → ℕ → List Item → List ℕ → List ℕ → Type 0
+FreesSoFar block zero back before now = Unit {0}
+FreesSoFar block (suc level) back before now =
+    (v : Visit) (t : Tree) → v.block ≡ block → StandsBelow before v (suc level) t → FreesOn before now v level t back
+
+pub so_far_none : (file : List ℕ) (n level : ℕ) (es : List Item) → AreEntriesAt n level es file
+    → FreesSoFar n level es file file
+so_far_none file n zero es are = tt
+so_far_none file n (suc level) es are = λ v t same s.
+    frees_none file v level t s es (subst (λ k. AreEntriesAt k (suc level) es file) (sym same) are)
+
+pub so_far_all : (before now : List ℕ) (n level : ℕ) → level ≢ 0 → FreesSoFar n level [] before now
+    → FreesBelow n level before now
+so_far_all before now n zero high so_far v t same s = absurd (high refl)
+so_far_all before now n (suc level) high so_far v t same s =
+    subst (λ k. Leaves before now t.blocks (k ∷ [])) same (frees_all before v level t s now (so_far v t same s))
+
+module _ (before now : List ℕ) (n : ℕ) (e : Item) (es : List Item) where
+  pub cannot_point : (level : ℕ) → level ≢ 0 → FreesSoFar n level (e ∷ es) before now → (length e.rest ≡ 4 → ⊥)
+      → NoneStands n level before
+  cannot_point zero high so_far other v t same s = absurd (high refl)
+  cannot_point (suc level) high so_far other v t same s =
+      other (child_size before v level t s now e es (so_far v t same s))
+
+  below_is : (level : ℕ) → suc level - 1 ≡ level
+  below_is level = omega arith
+
+  pub cannot_below : (level : ℕ) → level ≢ 0 → FreesSoFar n level (e ∷ es) before now
+      → NoneStands (u32_at e.rest 0) (level - 1) now → NoneStands n level before
+  cannot_below zero high so_far none v t same s = absurd (high refl)
+  cannot_below (suc level) high so_far none v t same s =
+      let f = so_far v t same s in
+      subst (λ l. NoneStands (u32_at e.rest 0) l now) (below_is level) none (visit_below v level f.low e)
+      (child before v level t s now e es f) refl (child_stands before v level t s now e es f)
+
+  module _ (mid : List ℕ) where
+    pub cannot_one : (level : ℕ) → level ≢ 0 → FreesSoFar n level (e ∷ es) before now
+        → FreesBelow (u32_at e.rest 0) (level - 1) now mid → CannotFree (u32_at e.rest 0) mid
+        → NoneStands n level before
+    cannot_one zero high so_far below cannot v t same s = absurd (high refl)
+    cannot_one (suc level) high so_far below cannot v t same s =
+        cannot_free_child before v level t s now e es (so_far v t same s) mid
+        (subst (λ l. FreesBelow (u32_at e.rest 0) l now mid) (below_is level) below) cannot
+
+    pub so_far_next : (after : List ℕ) (level : ℕ) → FreesSoFar n level (e ∷ es) before now
+        → FreesBelow (u32_at e.rest 0) (level - 1) now mid → FreesOne (u32_at e.rest 0) mid after
+        → FreesSoFar n level es before after
+    so_far_next after zero so_far below one = tt
+    so_far_next after (suc level) so_far below one = λ v t same s.
+        frees_next before v level t s now e es (so_far v t same s) mid
+        (subst (λ l. FreesBelow (u32_at e.rest 0) l now mid) (below_is level) below) after one
+
+pub not_read_none : (file : List ℕ) (n level : ℕ) → level ≢ 0 → HasNoEntries n level file → NoneStands n level file
+not_read_none file n zero high none v t same s = absurd (high refl)
+not_read_none file n (suc level) high none v t same s = no_entries_none file n level none v t same s
+
+-- ---- the entry of a turn
+
+-- the last one
+pub so_far_end : (before now : List ℕ) (n level : ℕ) (xs : List Entry) (k : ℕ) → length xs ≤ k
+    → FreesSoFar n level (items (drop k xs)) before now → FreesSoFar n level [] before now
+so_far_end before now n level xs k past so_far =
+    subst (λ (ys : List Entry). FreesSoFar n level (items ys) before now) (drop_all k xs past) so_far
+
+-- one that stands before others
+pub so_far_at : (before now : List ℕ) (n level : ℕ) (xs : List Entry) (k : ℕ) (e : Entry) → k < length xs
+    → get_or xs k e ≡ e → FreesSoFar n level (items (drop k xs)) before now
+    → FreesSoFar n level (item e ∷ items (drop (k + 1) xs)) before now
+so_far_at before now n level xs k e low here so_far =
+    subst (λ (ys : List Entry). FreesSoFar n level (items ys) before now)
+    (drop_more xs k e low ∙ ap (λ y. y ∷ drop (k + 1) xs) here) so_far

@@ -5,6 +5,7 @@ use Rattle.std.specs.Prelude.{IsTrue, MatchBool, nat_eq, nat_lt}
 use Rattle.std.specs.List.{IsDistinct}
 use Rattle.std.proofs.lemmas.Bool.{eq-eqb, ne_eqb, lt-ltb, or_left, or_right}
 use Rattle.gds_bitmap.specs.State.{is_free}
+use Rattle.gds_bitmap.specs.declared.state.State.TheVariants.{Recycled}
 use Rattle.gds_bitmap.specs.Pairs.{count_below}
 use Rattle.gds_block.specs.Block.{IsBlock, level_of}
 use Rattle.gds_block.specs.Item.{Item}
@@ -12,20 +13,21 @@ use Rattle.gds_header.specs.Fields.{block_of, fields_of}
 use Rattle.gds_law.specs.Visit.{Visit, directory_root}
 use Rattle.gds_sound.specs.Sound.{Tree, joined, sound_tree}
 use Rattle.gds_sound.proofs.CountLemmas.{count, count_append}
-use Rattle.gds_sound.proofs.PathLemmas.{any_counted, counted_any, counts_from_distinct}
+use Rattle.gds_sound.proofs.PathLemmas.{any_counted, counted_any, counts_from_distinct, distinct_from_counts}
 use Rattle.gds_sound.proofs.TreeLemmas.{own_level}
 use Rattle.gds_split.specs.Pieces.{entry_to}
+use Rattle.gds_split.proofs.AboveLemmas.{leads}
 use Rattle.gds_tree.specs.Below.{HasEntries, index_tree, leaf_tree, trees_below, visit_below}
 use Rattle.gds_tree.specs.Keeps.{IsImage}
 use Rattle.gds_tree.specs.RightBlock.{IsDueLevel}
-use Rattle.gds_tree.proofs.BelowLemmas.{both_parts, first_block}
+use Rattle.gds_tree.proofs.BelowLemmas.{both_parts, first_block, some_both}
 use Rattle.gds_tree.proofs.PartLemmas.{lawful_at}
 use Rattle.gds_tree.proofs.TreeByLemmas.{by_index, by_leaf, index_by, leaf_by}
 use Rattle.gds_file.specs.FileLaws.{IsLawful, StandsAt}
 use Rattle.gds_file.specs.FreeLaws.{IsBusy}
 use Rattle.gds_file.specs.Grow.{state_of}
 use Rattle.gds_file.specs.Maps.{has_block}
-use Rattle.gds_file.specs.Rewrite.{AreNoMaps}
+use Rattle.gds_file.specs.Reshape.{Reshapes}
 use Rattle.gds_file.proofs.FreeCountLemmas.{count_some, free_by_blocks, is_free_block}
 use Rattle.gds_file.proofs.ReshapeLemmas.{reshapes_compose}
 use Rattle.gds_splice.specs.Parted.{TreeBecomes}
@@ -153,9 +155,111 @@ module _ (before mid : List ℕ) (v : Visit) (level : ℕ) (t : Tree) (m : MayKi
       put : HasEmptyDirectory mid after
       put = puts left.leaves.lawful (subst (IsBusy mid) is root_busy)
 
-      none_below : Tree
-      none_below = record { blocks = visit_below directory_root 0 directory_root.low (entry_to put.leaf []) .block ∷ []; items = [] }
+      under : Visit
+      under = visit_below directory_root 0 directory_root.low (entry_to put.leaf [])
+
+      empty_tree : Tree
+      empty_tree = index_tree directory_root (joined (leaf_tree under []) (record { blocks = []; items = [] }))
+
+      j : IsImage after
+      j = image_of after put.lawful
+
+      under_is : under.block ≡ put.leaf
+      unfolding under
+      under_is = leads (fields_of after) put.leaf j.limits put.number
+
+      tree_there : sound_tree after 1 directory_root ≡ Some empty_tree
+      unfolding under empty_tree
+      tree_there =
+          index_by after directory_root 0 (entry_to put.leaf [] ∷ []) (joined (leaf_tree under []) none) j put.root_has
+          (some_both (sound_tree after 0 under) (Some none) (leaf_tree under []) none
+          (leaf_by after under [] j put.leaf_has) refl)
+        where
+          none : Tree
+          none = record { blocks = []; items = [] }
+
+      blocks_are : empty_tree.blocks ≡ 1 ∷ put.leaf ∷ []
+      unfolding empty_tree
+      blocks_are = ap (λ k. 1 ∷ k ∷ []) under_is
+
+      items_are : empty_tree.items ≡ []
+      unfolding empty_tree
+      items_are = refl
+
+      once : IsDistinct nat_eq empty_tree.blocks
+      once =
+          subst (IsDistinct nat_eq) (sym blocks_are)
+          (distinct_more 1 (put.leaf ∷ []) (ap (λ b. b || false) (ne_eqb 1 put.leaf (λ e. put.other (sym e))))
+          (distinct_more put.leaf [] refl (distinct_from_counts [] (λ n. omega arith))))
+
+      becomes : TreeBecomes before after directory_root t.blocks []
+      becomes = record {
+        tree = empty_tree;
+        stands = record { sound = own_level after 1 directory_root empty_tree tree_there; distinct = once };
+        items_are = items_are;
+        reshapes = reshapes_compose before mid after t.blocks (1 ∷ []) empty_tree.blocks
+            (subst (λ k. Reshapes before mid t.blocks (k ∷ [])) is left.leaves.reshapes)
+            (subst (Reshapes mid after (1 ∷ [])) (sym blocks_are) put.reshapes);
+        lawful = put.lawful;
+      }
+
+      emptied_directory : IsEmptyDirectory before after v t
+      emptied_directory =
+          subst (λ w. IsEmptyDirectory before after w t) (sym at_root)
+          (record { becomes = becomes; leaf = put.leaf; root_has = put.root_has; leaf_has = put.leaf_has })
 
       pub directory_killed : HasKilled before after v t low high true
       directory_killed = (left.none, subst (λ b. MatchBool b (IsEmptyDirectory before after v t)
           (IsEmptied before after v t)) (sym (eq-eqb v.block 1 is)) emptied_directory)
+
+-- ---- the directory may be written
+
+-- An index block has a child.
+child_of : (file : List ℕ) (v : Visit) (level : ℕ) (t : Tree) → StandsBelow file v (suc level) t
+    → (n : ℕ) × IsTrue (has_block t.blocks n) × (n ≢ v.block)
+child_of file v level t s =
+    let i = image_of file s.maps in
+    let p = by_index file v level t i s.number.within s.sound in
+    by p.es p.below p.has p.trees p.is
+  where
+    by : (es : List Item) (below : Tree) → HasEntries file v (suc level) es
+        → trees_below file v level v.low es ≡ Some below → t ≡ index_tree v below
+        → (n : ℕ) × IsTrue (has_block t.blocks n) × (n ≢ v.block)
+    by [] below has trees is =
+        let none = (lawful_at file v (suc level) [] has).none refl in absurd (omega (arith, none.leaf))
+    by (e ∷ es) below has trees is =
+        let c : Visit = visit_below v level v.low e in
+        let q = both_parts (sound_tree file level c) (trees_below file v level (Some e.key) es) below trees in
+        let first = first_block file level c q.first q.here in
+        let counted : (n : ℕ) → count n t.blocks ≡ count n (v.block ∷ []) + count n (c.block ∷ first.0)
+        + count n q.second.blocks = λ n. omega (
+          arith,
+          ap (λ (u : Tree). count n u.blocks) is,
+          ap (λ (u : Tree). count n u.blocks) q.is,
+          count_append n q.first.blocks q.second.blocks,
+          ap (count n) first.1,
+        ) in
+        let own = any_counted c.block (c.block ∷ first.0)
+        (or_left (nat_eq c.block c.block) _ (eq-eqb c.block c.block refl)) in (
+          c.block,
+          counted_any c.block t.blocks (omega (arith, counted c.block, own)),
+          λ same. omega (
+            arith,
+            counted c.block,
+            own,
+            counts_from_distinct t.blocks s.distinct c.block,
+            any_counted c.block (v.block ∷ []) (or_left (nat_eq c.block v.block) _ (eq-eqb c.block v.block same)),
+          ),
+        )
+
+pub cannot_empty : (before mid : List ℕ) (root level : ℕ) (low high : List ℕ) → 1 ≤ level
+    → level_of (block_of before root) ≡ level
+    → ((v : Visit) (t : Tree) → v.block ≡ root → StandsBelow before v level t
+    → LeavesNone before mid t (whole low high) (v.block ∷ []))
+    → CannotPutEmpty mid → CannotKill root before
+cannot_empty before mid root zero low high some is left cannot v t same m = absurd (omega (arith, some))
+cannot_empty before mid root (suc level) low high some is left cannot v t same m =
+    let s = root_stands before v t m root (suc level) same is in
+    let l = left v t same s in
+    let c = child_of before v level t s in
+    cannot l.leaves.lawful (freed_is_free before mid v (suc level) t m s low high l c.0 c.1 c.2)

@@ -3,11 +3,14 @@ use Rattle.std.proofs.Common.{◌≡◌, ◌≢◌, ◌+◌, ◌<◌, ◌≤◌,
 use Rattle.std.proofs.Common.{refl, sym, ap, ◌∙◌, subst, arith}
 use Rattle.std.specs.Prelude.{IsTrue, not, nat_eq}
 use Rattle.std.specs.List.{IsDistinct}
+use Rattle.std.proofs.lemmas.List.{length-map}
 use Rattle.gds_block.specs.Item.{Item}
 use Rattle.gds_header.specs.Fields.{fields_of}
 use Rattle.gds_header.specs.declared.header.Header.{Header}
 use Rattle.gds_law.specs.Visit.{Visit}
+use Rattle.gds_pack.specs.Entry.{item, items}
 use Rattle.gds_pack.specs.Packed.{packed_size}
+use Rattle.gds_pack.specs.declared.entry.Entry.{Entry}
 use Rattle.gds_sound.specs.Sound.{Tree, sound_tree}
 use Rattle.gds_tree.specs.Below.{HasEntries, leaf_tree}
 use Rattle.gds_tree.specs.Lawful as entries
@@ -35,6 +38,31 @@ no_leaf_none file n none v t same s =
     let i = image_below file v 0 t s in
     let p = by_leaf file v t i s.number.within s.sound in
     none v p.es same i p.has
+
+-- ---- entries in memory, by how many they are
+
+no_items : (xs : List Item) → length xs ≡ 0 → xs ≡ []
+no_items [] none = refl
+no_items (x ∷ xs) none = absurd (omega (arith, none))
+
+module _ (xs : List Entry) (left : List Item) (is : items xs ≡ left) where
+  many : length left ≡ length xs
+  many = ap length (sym is) ∙ length-map xs item
+
+  pub none_in : length xs ≡ 0 → left ≡ []
+  none_in none = no_items left (omega (arith, many, none))
+
+  pub some_in : (length xs ≡ 0 → ⊥) → left ≢ []
+  some_in some none = some (omega (arith, many, ap length none))
+
+  pub as_many : (all : List Entry) → length xs ≡ length all → length (items all) ≤ length left
+  as_many all same = omega (arith, many, same, length-map all item)
+
+-- ---- the leaf
+
+pub may_put_same : (h g : Header) (level : ℕ) (es : List Item) → g.block_size ≡ h.block_size → MayPut h level es
+    → MayPut g level es
+may_put_same h g level es same m = record { packable = m.packable; fits = omega (arith, same, m.fits) }
 
 module _ (before : List ℕ) (range : Range) (es : List Item) where
   abbrev left : List Item
@@ -111,7 +139,7 @@ module _ (before : List ℕ) (range : Range) (es : List Item) where
           (subst (λ k. entries.IsLawful k v 0 left) (sym fields)
           (left_lawful (λ e. not (is_in range e.key)) (fields_of before) v es some (lawful_at before v 0 es has)))
           put.fits (subst (IsDueLevel v.level) has.level has.right.head.level)
-          (omega (arith, has.right.head.stamped.past, ap (λ (k : Header). k.tn) fields)) (omega arith)
+          (omega (arith, has.right.head.stamped.tn, ap (λ (k : Header). k.tn) fields)) (omega arith)
 
       pub some_left : LeavesTree before after v 0 t range
       some_left = record {

@@ -2,7 +2,7 @@
 use Rattle.std.proofs.Common.{◌≡◌, ◌+◌, ◌≤◌, ℕ, Option, refl, sym, ap, ◌∙◌, arith}
 use Rattle.host_model.specs.Failures.{Failures}
 use Rattle.host_model.specs.Files.{Contents}
-use Rattle.gds_base.specs.Drafting.{IsDraftFor}
+use Rattle.gds_base.specs.Drafting.{IsDraftFor, OnlyDrafts}
 use Rattle.gds_draft.specs.Draft.{DraftState}
 use Rattle.gds_header.specs.declared.header.Header.{Header}
 use Rattle.gds_units.specs.Reading.{OnlyRead}
@@ -70,3 +70,10 @@ module _ {H : Type 0} (told : H → Option Contents) (moment : H → ℕ) (count
   pub total_stays : (a b : UnitsState H) (x y : DraftState) (m : ℕ) → Only a b x y m
       → y.header.total ≡ x.header.total
   total_stays a b x y m only = ap (λ (h : Header). h.total) only.header
+
+  -- a block was freed or taken
+  pub OnlyWrites-drafts : (a b : UnitsState H) (x y : DraftState) (m : ℕ)
+      → OnlyDrafts told moment counts left_since a b x y m → blocks_beside_maps y ≤ blocks_beside_maps x
+      → Only a b x y 0
+  OnlyWrites-drafts a b x y m only maps =
+      record { read = only.read; header = only.header; more = omega (arith, maps) }

@@ -70,7 +70,7 @@ fn root_level<H: Host>(base: &mut Base<H>, draft: &Draft, root: u32) -> Result<u
         return Err(changed(root));
     };
     let level = view.level();
-    if !(1..=7).contains(&level) {
+    if level == 0 || level > 7 {
         return Err(changed(root));
     }
     Ok(level)

@@ -1,14 +1,16 @@
-ghost use Rattle.std.specs.Prelude.{IfOk};
+ghost use Rattle.std.specs.Prelude.{◌≡◌, IfOk};
 ghost use Rattle.gds_base.specs.Drafting.{Drafts, IsDraftFor, WithDraft};
 ghost use Rattle.gds_base.specs.Ending.{EndsReading};
+ghost use Rattle.gds_pack.specs.Entry.{items};
 ghost use Rattle.gds_remove.specs.Cut.{CutsAt, NoneStands};
 ghost use Rattle.gds_remove.specs.Killed.{OnlyWrites};
-ghost use Rattle.gds_remove.specs.Range.{range_of};
+ghost use Rattle.gds_remove.specs.Range.{left_by, range_of};
 
 use crate::node::{put_left, read_level};
 use crate::range::KeyRange;
 use gds_base::{Base, BaseError};
 use gds_draft::Draft;
+use gds_pack::Entry;
 use host_model::Host;
 use std::alloc::Global;
 
@@ -27,14 +29,23 @@ pub(crate) fn cut_leaf<H: Host>(
     ensures ends { EndsReading (H.failures base.old.host) (H.failures base.new.host)
         (WithDraft base.old draft.old (NoneStands n 0)) result }
 {
+    base.hold_draft(draft);
     let mut entries = read_level(alloc, base, draft, n, 0)?;
     let count = entries.len();
-    entries.retain(|entry| !range.contains(entry.key.as_slice()));
+    retain_outside(&mut entries, &range);
     if entries.is_empty() {
         return Ok(true);
     }
-    if entries.len() < count {
-        put_left(alloc, base, draft, n, 0, &entries)?;
+    if entries.len() == count {
+        return Ok(false);
     }
+    put_left(alloc, base, draft, n, 0, &entries)?;
     Ok(false)
+}
+
+// Lets the entries go whose keys are in a range.
+fn retain_outside(entries: &mut Vec<Entry>, range: &KeyRange<'_>)
+    ensures { items entries.new.items ≡ left_by (range_of range.now) (items entries.old.items) }
+{
+    entries.retain(|entry| !range.contains(entry.key.as_slice()));
 }
