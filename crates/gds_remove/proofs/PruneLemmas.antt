@@ -28,7 +28,7 @@ use Rattle.m_key.specs.Key.{Below}
 use Rattle.gds_remove.specs.Block.{CannotFree, FreesOne}
 use Rattle.gds_remove.specs.Child.{CannotPrune, MayPrune, PrunesChild}
 use Rattle.gds_remove.specs.Cut.{CutsAt, HasPruned, LeavesNone, LeavesTree, NoneStands}
-use Rattle.gds_remove.specs.Range.{IsInBounds, IsLeft, IsPart, Left, Range, TakesPart, is_in, left_by}
+use Rattle.gds_remove.specs.Range.{IsInBounds, IsLeft, IsPart, Left, Range, StaysLeft, TakesPart, is_in, left_by}
 use Rattle.gds_remove.proofs.LeavesLemmas.{leaves_compose, leaves_same, left_are_busy}
 
 -- ---- items within bounds
@@ -144,19 +144,29 @@ module _ (before : List ℕ) (v : Visit) (level : ℕ) (from : Option (List ℕ)
 
 -- ---- the calls
 
-module _ (level : ℕ) (e : Item) (left after_left : Left) (before : List ℕ) where
-  abbrev Takes : Option Range → Type 0
-  Takes part = (range : Range) (from : Option (List ℕ)) → IsLeft range from left
-      → TakesPart range from e.key after_left part
+-- a child with a key takes its part of what is left
+abbrev pub Takes : Left → List ℕ → Left → Option Range → Type 0
+Takes left key after part =
+    (range : Range) (from : Option (List ℕ)) → IsLeft range from left → TakesPart range from key after part
 
-  pub nothing_pruned : Takes None → PrunesChild level e left false before before
+pub takes_of : (left after : Left) (key key' : List ℕ) (part part' : Option Range) → key ≡ key' → part ≡ part'
+    → Takes left key after part → Takes left key' after part'
+takes_of left after key key' part part' k p takes =
+    subst (λ (bytes : List ℕ). Takes left bytes after part') k (subst (Takes left key after) p takes)
+
+pub stays_of : (left after : Left) (key : List ℕ) (part : Option Range) → Takes left key after part
+    → (range : Range) (from : Option (List ℕ)) → IsLeft range from left → StaysLeft range from key after
+stays_of left after key part takes range from l = (takes range from l).stays
+
+module _ (level : ℕ) (e : Item) (left after_left : Left) (before : List ℕ) where
+  pub nothing_pruned : Takes left e.key after_left None → PrunesChild level e left false before before
   nothing_pruned takes v from t range m =
       untouched before v level from e t range left m (takes range from m.left_is).part_is
 
   pub no_pointer : (length e.rest ≡ 4 → ⊥) → CannotPrune level e left before
   no_pointer not v from t range m = not m.size
 
-  module _ (part : Range) (takes : Takes (Some part)) (child : ℕ) (is : child ≡ u32_at e.rest 0) where
+  module _ (part : Range) (takes : Takes left e.key after_left (Some part)) (child : ℕ) (is : child ≡ u32_at e.rest 0) where
     pub cannot_cut : NoneStands child level before → CannotPrune level e left before
     cannot_cut cannot v from t range m = cannot (visit_below v level from e) t (sym is) m.stands
 
