@@ -98,7 +98,7 @@ cannot_cut file root level is none v t same m = none v t same (root_stands file 
 
 -- ---- what is left
 
-abbrev whole : List ℕ → List ℕ → Range
+abbrev pub whole : List ℕ → List ℕ → Range
 whole low high = record { low = Some low; high = Some high }
 
 module _ (before mid : List ℕ) (v : Visit) (level : ℕ) (t : Tree) (m : MayKill before v t)
