@@ -1,4 +1,9 @@
 pub mod LeavesLemmas
+pub mod KeptLemmas
+pub mod RangeLemmas
+pub mod SoFarLemmas
+pub mod PruneLemmas
+pub mod EndLemmas
 pub mod WritesLemmas
 pub mod NodeLemmas
 pub mod FreeingLemmas
@@ -8,3 +13,4 @@ pub mod EmptyingLemmas
 pub mod KillingLemmas
 pub mod AloneLemmas
 pub mod EditedLemmas
+pub mod CuttingLemmas

@@ -49,4 +49,3 @@ FreesOne block before after =
 -- It is no block that a tree may have in a file with lawful maps.
 abbrev pub CannotFree : ℕ → List ℕ → Type 0
 CannotFree block file = IsLawful file → IsTreeNumber (fields_of file).total block → ⊥
-
