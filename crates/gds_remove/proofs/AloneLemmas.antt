@@ -1,9 +1,8 @@
 -- An entry of a leaf that alone is in a range of keys is taken out in place.
-use Rattle.std.proofs.Common.{◌≡◌, ◌≢◌, ◌+◌, ◌<◌, ◌≤◌, ◌&&◌, ◌||◌, ℕ, Bool, true, false, not, List, [], ◌∷◌, ◌++◌, length}
+use Rattle.std.proofs.Common.{◌≡◌, ◌≢◌, ◌+◌, ◌<◌, ◌≤◌, ◌&&◌, ℕ, Bool, true, false, not, List, [], ◌∷◌, ◌++◌, length}
 use Rattle.std.proofs.Common.{filter, take, refl, sym, ap, ◌∙◌, subst, arith, append_assoc, inl, inr, Some}
 use Rattle.std.specs.Prelude.{All}
 use Rattle.std.specs.Bool.{OnTrue}
-use Rattle.std.specs.Ordering.{is_lt}
 use Rattle.std.specs.List.{AllByRecursion}
 use Rattle.std.proofs.lemmas.Bool.{and_right, cond-false, cond-true}
 use Rattle.std.proofs.lemmas.List.Elements.{filter-append, recursion_from_All}

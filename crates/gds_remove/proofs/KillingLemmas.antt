@@ -1,12 +1,11 @@
 -- A range of keys is cut out of the tree of a root.
-use Rattle.std.proofs.Common.{◌≡◌, ◌≢◌, ◌+◌, ◌-◌, ◌<◌, ◌≤◌, ◌%◌, ◌/◌, ◌==◌, ◌&&◌, ◌||◌, ℕ, zero, suc, Bool, true, false}
-use Rattle.std.proofs.Common.{List, [], ◌∷◌, ◌++◌, length, Option, None, Some, refl, sym, ap, ◌∙◌, subst, arith, inl, inr}
-use Rattle.std.specs.Prelude.{IsTrue, MatchBool, nat_eq, nat_lt}
+use Rattle.std.proofs.Common.{◌≡◌, ◌≢◌, ◌+◌, ◌<◌, ◌≤◌, ◌%◌, ◌&&◌, ◌||◌, ℕ, zero, suc, true, false}
+use Rattle.std.proofs.Common.{List, [], ◌∷◌, None, Some, refl, sym, ap, ◌∙◌, subst, arith}
+use Rattle.std.specs.Prelude.{IsTrue, MatchBool, nat_eq}
 use Rattle.std.specs.List.{IsDistinct}
-use Rattle.std.proofs.lemmas.Bool.{eq-eqb, ne_eqb, lt-ltb, or_left, or_right}
+use Rattle.std.proofs.lemmas.Bool.{eq-eqb, ne_eqb, lt-ltb, or_left}
 use Rattle.gds_bitmap.specs.State.{is_free}
 use Rattle.gds_bitmap.specs.declared.state.State.TheVariants.{Recycled}
-use Rattle.gds_bitmap.specs.Pairs.{count_below}
 use Rattle.gds_block.specs.Block.{IsBlock, level_of}
 use Rattle.gds_block.specs.Item.{Item}
 use Rattle.gds_header.specs.Fields.{block_of, fields_of}
@@ -23,7 +22,6 @@ use Rattle.gds_tree.specs.RightBlock.{IsDueLevel}
 use Rattle.gds_tree.proofs.BelowLemmas.{both_parts, first_block, some_both}
 use Rattle.gds_tree.proofs.PartLemmas.{lawful_at}
 use Rattle.gds_tree.proofs.TreeByLemmas.{by_index, by_leaf, index_by, leaf_by}
-use Rattle.gds_file.specs.FileLaws.{IsLawful, StandsAt}
 use Rattle.gds_file.specs.FreeLaws.{IsBusy}
 use Rattle.gds_file.specs.Grow.{state_of}
 use Rattle.gds_file.specs.Maps.{has_block}
@@ -34,7 +32,7 @@ use Rattle.gds_splice.specs.Parted.{TreeBecomes}
 use Rattle.gds_splice.proofs.CountedLemmas.{distinct_more, same_one}
 use Rattle.gds_splice.proofs.ImageLemmas.{image_of}
 use Rattle.gds_splice.proofs.ToldLemmas.{is_block_at}
-use Rattle.gds_remove.specs.Cut.{Leaves, LeavesNone, LeavesTree, NoneStands, StandsBelow}
+use Rattle.gds_remove.specs.Cut.{LeavesNone, LeavesTree, NoneStands, StandsBelow}
 use Rattle.gds_remove.specs.Emptied.{CannotPutEmpty, HasEmptyDirectory, PutsEmptyDirectory}
 use Rattle.gds_remove.specs.Killed.{CannotKill, HasKilled, IsEmptied, IsEmptyDirectory, MayKill}
 use Rattle.gds_remove.specs.Range.{Range}

@@ -1,7 +1,7 @@
 -- A leaf of which a range of keys is cut out.
-use Rattle.std.proofs.Common.{◌≡◌, ◌≢◌, ◌+◌, ◌<◌, ◌≤◌, ◌%◌, ◌||◌, ℕ, List, [], ◌∷◌, length, Some}
+use Rattle.std.proofs.Common.{◌≡◌, ◌≢◌, ◌≤◌, ◌%◌, ℕ, List, [], ◌∷◌, length}
 use Rattle.std.proofs.Common.{refl, sym, ap, ◌∙◌, subst, arith}
-use Rattle.std.specs.Prelude.{IsTrue, not, nat_eq}
+use Rattle.std.specs.Prelude.{not, nat_eq}
 use Rattle.std.specs.List.{IsDistinct}
 use Rattle.std.proofs.lemmas.List.{length-map}
 use Rattle.gds_base.specs.Put.{PutsBlock}
@@ -11,9 +11,8 @@ use Rattle.gds_header.specs.Fields.{block_of, fields_of}
 use Rattle.gds_header.specs.declared.header.Header.{Header}
 use Rattle.gds_law.specs.Visit.{Visit}
 use Rattle.gds_pack.specs.Entry.{item, items}
-use Rattle.gds_pack.specs.Packed.{packed_size}
 use Rattle.gds_pack.specs.declared.entry.Entry.{Entry}
-use Rattle.gds_sound.specs.Sound.{Tree, sound_tree}
+use Rattle.gds_sound.specs.Sound.{Tree}
 use Rattle.gds_tree.specs.Below.{HasEntries, leaf_tree}
 use Rattle.gds_tree.specs.Keeps.{IsImage}
 use Rattle.gds_tree.specs.Lawful as entries
@@ -29,7 +28,7 @@ use Rattle.gds_splice.specs.Writing.{PutsEntries}
 use Rattle.gds_splice.proofs.CountedLemmas.{same_one}
 use Rattle.gds_splice.proofs.ImageLemmas.{image_of}
 use Rattle.gds_remove.specs.Block.{AreEntriesAt, HasNoEntries}
-use Rattle.gds_remove.specs.Cut.{CutsAt, HasCut, Leaves, LeavesNone, LeavesTree, NoneStands, StandsBelow}
+use Rattle.gds_remove.specs.Cut.{Leaves, LeavesNone, LeavesTree, NoneStands, StandsBelow}
 use Rattle.gds_remove.specs.Range.{Range, is_in, left_by}
 use Rattle.gds_remove.proofs.EditedLemmas.{edited_there}
 use Rattle.gds_remove.proofs.FreeingLemmas.{image_below}

@@ -20,7 +20,6 @@ use Rattle.gds_splice.specs.Parted.{IsRoot, TreeBecomes}
 use Rattle.gds_tree.specs.Below.{HasEntries, visit_below}
 use Rattle.gds_units.specs.Reading.{OnlyRead}
 use Rattle.gds_units.specs.State.{UnitsState}
-use Rattle.std.specs.Prelude.{None}
 
 -- A sound tree stands at a root, and its blocks are busy in a file with lawful maps. At block 1 it is the directory.
 pub record MayKill (file : List ℕ) (v : Visit) (t : Tree) : Type 0 where

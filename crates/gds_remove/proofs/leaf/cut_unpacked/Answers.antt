@@ -1,7 +1,7 @@
-use Rattle.std.proofs.Common.{Bool, List, [], ℕ, vec_len, sym, ap, ◌∙◌, subst, arith, rules}
+use Rattle.std.proofs.Common.{Bool, List, ℕ, vec_len, sym, ap, ◌∙◌, subst, arith}
 use Rattle.std.proofs.lemmas.Bool.{both_ways, eq-eqb, eqb-true}
 use Rattle.std.specs.Global.{Vec}
-use Rattle.gds_pack.specs.Entry.{item, items}
+use Rattle.gds_pack.specs.Entry.{items}
 use Rattle.gds_pack.specs.declared.entry.Entry.{Entry}
 use Rattle.host_model.proofs.FailureLemmas.{NeverFell-refl}
 use Rattle.gds_block.specs.Item.{Item}
