@@ -104,13 +104,16 @@ whole low high = record { low = Some low; high = Some high }
 module _ (before mid : List ℕ) (v : Visit) (level : ℕ) (t : Tree) (m : MayKill before v t)
     (s : StandsBelow before v level t) (low high : List ℕ) where
   pub some_killed : LeavesTree before mid v level t (whole low high) → HasKilled before mid v t low high false
-  some_killed left = (left.some, record {
-    tree = left.tree;
-    stands = record { sound = own_level mid level v left.tree left.sound; distinct = left.distinct };
-    items_are = left.items_are;
-    reshapes = left.leaves.reshapes;
-    lawful = left.leaves.lawful;
-  })
+  some_killed left = (
+    left.some,
+    record {
+      tree = left.tree;
+      stands = record { sound = own_level mid level v left.tree left.sound; distinct = left.distinct };
+      items_are = left.items_are;
+      reshapes = left.leaves.reshapes;
+      lawful = left.leaves.lawful;
+    },
+  )
 
   module _ (left : LeavesNone before mid t (whole low high) (v.block ∷ [])) where
     emptied : IsEmptied before mid v t
@@ -121,8 +124,11 @@ module _ (before mid : List ℕ) (v : Visit) (level : ℕ) (t : Tree) (m : MayKi
     }
 
     pub all_killed : v.block ≢ 1 → HasKilled before mid v t low high true
-    all_killed other = (left.none, subst (λ b. MatchBool b (IsEmptyDirectory before mid v t) (IsEmptied before mid v t))
-        (sym (ne_eqb v.block 1 other)) emptied)
+    all_killed other = (
+      left.none,
+      subst (λ b. MatchBool b (IsEmptyDirectory before mid v t) (IsEmptied before mid v t))
+          (sym (ne_eqb v.block 1 other)) emptied,
+    )
 
     -- the root's block is busy still
     pub root_busy : IsBusy mid v.block
@@ -209,8 +215,11 @@ module _ (before mid : List ℕ) (v : Visit) (level : ℕ) (t : Tree) (m : MayKi
           (record { becomes = becomes; leaf = put.leaf; root_has = put.root_has; leaf_has = put.leaf_has })
 
       pub directory_killed : HasKilled before after v t low high true
-      directory_killed = (left.none, subst (λ b. MatchBool b (IsEmptyDirectory before after v t)
-          (IsEmptied before after v t)) (sym (eq-eqb v.block 1 is)) emptied_directory)
+      directory_killed = (
+        left.none,
+        subst (λ b. MatchBool b (IsEmptyDirectory before after v t)
+            (IsEmptied before after v t)) (sym (eq-eqb v.block 1 is)) emptied_directory,
+      )
 
 -- ---- the directory may be written
 

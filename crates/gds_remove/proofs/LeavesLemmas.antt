@@ -113,7 +113,7 @@ module _ (before after : List ℕ) (block : ℕ) (r : Recycles before after bloc
     | inl mine ↦ elim (cases_eq (n % 512) (block % 512)) [
       | inl same ↦ (λ i. state_at (map_of after (mine i)) (same i)) ∙ r.pair.marked
       | inr other ↦ ap (λ g. state_at (map_of after g) (n % 512)) mine ∙ r.pair.others (n % 512) other
-        ∙ ap (λ g. state_at (map_of before g) (n % 512)) (sym mine) ∙ is
+          ∙ ap (λ g. state_at (map_of before g) (n % 512)) (sym mine) ∙ is
     ]
     | inr other ↦
         ap (λ map. state_at map (n % 512)) (r.others (512 * (n / 512)) (λ e. other (omega (arith, e)))) ∙ is

@@ -57,7 +57,7 @@ module _ (test : Item → Bool) where
     are.1.1,
   )
 
-  filter_leaves : (p : List ℕ) (es : List Item) → AreLeaves p es → AreLeaves p (filter test es)
+  pub filter_leaves : (p : List ℕ) (es : List Item) → AreLeaves p es → AreLeaves p (filter test es)
   filter_leaves p [] are = tt
   filter_leaves p (e ∷ es) are =
       filter_by test (AreLeaves p) e es (λ is. (are.0, filter_leaves e.key es are.1))

@@ -13,4 +13,6 @@ pub mod LeftItemsLemmas
 pub mod LeafLemmas
 pub mod EmptyingLemmas
 pub mod KillingLemmas
+pub mod AloneLemmas
+pub mod EditedLemmas
 pub mod CuttingLemmas

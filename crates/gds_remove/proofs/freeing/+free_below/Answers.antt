@@ -126,7 +126,7 @@ loop-entry-preserved g t c =
           (so_far_at before now c.args.n c.args.level entries k e c.loop-entry-test.true (sym c.entry-item.is)
           (c.loop-entry.invariant.frees image is))
           (subst (λ child. FreesBelow child (c.args.level - 1) now mid)
-    (c.in-Some.ensures.1 ∙ ap (λ bs. u32_at bs 0) c.deref.ensures.value)
+          (c.in-Some.ensures.1 ∙ ap (λ bs. u32_at bs 0) c.deref.ensures.value)
           (c.in_ok-free_below.ensures.freed image (same ∙ is)))
           (subst (λ child. FreesOne child mid after)
           (c.in-Some.ensures.1 ∙ ap (λ bs. u32_at bs 0) c.deref.ensures.value)

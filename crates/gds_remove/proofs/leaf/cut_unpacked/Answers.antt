@@ -16,7 +16,7 @@ use Rattle.gds_remove.specs.Block.{AreEntriesAt}
 use Rattle.gds_remove.specs.Range.{left_by, range_of}
 use Rattle.gds_remove.proofs.LeafLemmas.{all_left, as_many, left_may, may_put_same, no_leaf_none, none_in, none_left}
 use Rattle.gds_remove.proofs.LeafLemmas.{some_in, some_left}
-use Rattle.gds_remove.proofs.leaf.cut_leaf.Goals as goal
+use Rattle.gds_remove.proofs.leaf.cut_unpacked.Goals as goal
 
 pub returns-in_err-entries-clause-ends : goal.returns-in_err-entries-clause-ends
 returns-in_err-entries-clause-ends g c =
