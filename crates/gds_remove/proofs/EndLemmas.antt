@@ -1,20 +1,20 @@
 -- An index block once a range was cut out of the trees below all its entries.
-use Rattle.std.proofs.Common.{◌≡◌, ◌≢◌, ◌+◌, ◌<◌, ◌≤◌, ◌%◌, ℕ, suc, true, false, List, [], ◌∷◌, ◌++◌, length, None, Some}
+use Rattle.std.proofs.Common.{◌≡◌, ◌≢◌, ◌+◌, ◌<◌, ◌≤◌, ℕ, suc, false, List, [], ◌∷◌, ◌++◌, length, Some}
 use Rattle.std.proofs.Common.{inl, inr, refl, sym, ap, ◌∙◌, subst, arith, append-nil}
 use Rattle.std.specs.Prelude.{nat_eq, IsTrue}
-use Rattle.std.specs.List.{AllByRecursion, IsDistinct}
-use Rattle.std.proofs.lemmas.Bool.{cases_lt, eq-eqb, false_from_ne_true, false≢true, or_left}
+use Rattle.std.specs.List.{AllByRecursion}
+use Rattle.std.proofs.lemmas.Bool.{cases_lt, eq-eqb, or_left}
 use Rattle.gds_block.specs.Fields.{u32_at}
 use Rattle.gds_block.specs.Item.{Item}
 use Rattle.gds_header.specs.declared.header.Header.{Header}
-use Rattle.gds_header.specs.Fields.{block_of, fields_of}
+use Rattle.gds_header.specs.Fields.{fields_of}
 use Rattle.gds_law.specs.Visit.{Visit}
 use Rattle.gds_pack.specs.Packed.{packed_size}
-use Rattle.gds_sound.specs.Sound.{Tree, joined, sound_tree}
+use Rattle.gds_sound.specs.Sound.{Tree}
 use Rattle.gds_sound.proofs.CountLemmas.{count, count_append}
-use Rattle.gds_sound.proofs.PathLemmas.{any_counted, counted_any, counted_here, counts_from_distinct, distinct_from_counts}
+use Rattle.gds_sound.proofs.PathLemmas.{any_counted, counted_any, counts_from_distinct, distinct_from_counts}
 use Rattle.gds_split.specs.Pieces.{starred}
-use Rattle.gds_tree.specs.Below.{HasEntries, as_star, index_tree, trees_below}
+use Rattle.gds_tree.specs.Below.{HasEntries, index_tree, trees_below}
 use Rattle.gds_tree.specs.Keeps.{IsImage}
 use Rattle.gds_tree.specs.Lawful.{IsLawfulEntry, IsTreeNumber}
 use Rattle.gds_tree.specs.Lawful as entries
@@ -26,23 +26,20 @@ use Rattle.gds_tree.proofs.PartLemmas.{numbered}
 use Rattle.gds_tree.proofs.ReplaceLemmas.{forest_grown}
 use Rattle.gds_tree.proofs.TreeByLemmas.{index_by}
 use Rattle.gds_ancestors.proofs.StarLemmas.{star_trees}
-use Rattle.gds_file.specs.FileLaws.{IsLawful}
 use Rattle.gds_file.specs.Maps.{has_block}
-use Rattle.gds_file.specs.Rewrite.{AreAllBusy, AreNoMaps, Rewrites}
-use Rattle.gds_file.proofs.RewriteLemmas.{rewrite_keeps_header}
+use Rattle.gds_file.specs.Rewrite.{AreNoMaps}
 use Rattle.gds_splice.proofs.CountedLemmas.{at_has, counted_none, has_same, none_counted, same_one}
 use Rattle.gds_splice.proofs.ImageLemmas.{image_of, sizes_of}
 use Rattle.gds_splice.proofs.DividedLemmas.{had_some}
-use Rattle.gds_splice.proofs.WritingLemmas.{number_grown}
 use Rattle.gds_splice.specs.Divided.{MayPut}
 use Rattle.gds_splice.specs.Writing.{PutsEntries}
-use Rattle.gds_remove.specs.Child.{CannotPutKept, PutsKept}
-use Rattle.gds_remove.specs.Cut.{HasCut, Leaves, LeavesNone, LeavesTree, StandsBelow}
+use Rattle.gds_remove.specs.Cut.{Leaves, LeavesNone, LeavesTree, StandsBelow}
 use Rattle.gds_remove.specs.Range.{Left, Range, left_by}
 use Rattle.gds_remove.proofs.KeptLemmas.{AreKept, IsEnded, ended, ends_with, nothing, starred_behind}
 use Rattle.gds_remove.proofs.LeavesLemmas.{leaves_compose, leaves_in_any_order, leaves_with_more, leaves_written}
 use Rattle.gds_remove.proofs.LeavesLemmas.{left_are_busy}
-use Rattle.gds_remove.proofs.SoFarLemmas.{CutSoFar, each_on, kept_by}
+use Rattle.gds_remove.proofs.BoundLemmas.{each_on, kept_by}
+use Rattle.gds_remove.proofs.SoFarLemmas.{CutSoFar}
 
 -- ---- entries that are kept
 
@@ -93,7 +90,11 @@ module _ (before now : List ℕ) (v : Visit) (level : ℕ) (t : Tree) (range : R
 
   once : (n : ℕ) → count n (v.block ∷ c.tree.blocks) ≤ 1
   once n = elim (cases_lt 0 (count n c.tree.blocks)) [
-    | inl some ↦ omega (arith, c.once n, counted_none (v.block ∷ []) n (tree_apart n (counted_any n c.tree.blocks some)))
+    | inl some ↦ omega (
+      arith,
+      c.once n,
+      counted_none (v.block ∷ []) n (tree_apart n (counted_any n c.tree.blocks some)),
+    )
     | inr few ↦ omega (arith, few, counted n)
   ]
 

@@ -1,13 +1,12 @@
 -- Some of the entries of an index block are kept, one after another, and the last of them becomes the star.
-use Rattle.std.proofs.Common.{◌≡◌, ◌+◌, ◌-◌, ◌≤◌, ℕ, suc, List, [], ◌∷◌, ◌++◌, length, Option, None, Some, ◌⊎◌, inl, inr}
+use Rattle.std.proofs.Common.{◌≡◌, ◌≤◌, ℕ, suc, List, [], ◌∷◌, ◌++◌, ◌⊎◌, inl, inr}
 use Rattle.std.proofs.Common.{refl, sym, ap, ◌∙◌, subst, arith, append_assoc}
-use Rattle.std.specs.List.{AllByRecursion}
 use Rattle.std.proofs.lemmas.List.Elements.{All-from_recursion}
 use Rattle.gds_block.specs.Item.{Item}
 use Rattle.gds_header.specs.declared.header.Header.{Header}
 use Rattle.gds_law.specs.Visit.{Visit}
 use Rattle.gds_pack.specs.Packable.{AreIndex}
-use Rattle.gds_pack.specs.Packed.{key_behind, packed_size}
+use Rattle.gds_pack.specs.Packed.{packed_size}
 use Rattle.gds_pack.proofs.SizeLemmas.{records_size-append}
 use Rattle.gds_split.specs.Pieces.{starred}
 use Rattle.gds_splice.proofs.FewerLemmas.{behind, packed_less}

@@ -1,7 +1,9 @@
 pub mod LeavesLemmas
 pub mod KeptLemmas
 pub mod RangeLemmas
+pub mod BoundLemmas
 pub mod SoFarLemmas
+pub mod NextLemmas
 pub mod PruneLemmas
 pub mod EndLemmas
 pub mod WritesLemmas

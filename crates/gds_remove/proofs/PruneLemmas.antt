@@ -1,7 +1,7 @@
 -- A range that is cut out of the tree of a child.
-use Rattle.std.proofs.Common.{◌≡◌, ◌≢◌, ◌<◌, ◌%◌, ℕ, Bool, true, false, not, List, [], ◌∷◌, Option, None, Some}
-use Rattle.std.proofs.Common.{length, refl, sym, ap, ◌∙◌, subst, arith}
-use Rattle.std.specs.Prelude.{filter, if◌then◌else◌, nat_eq}
+use Rattle.std.proofs.Common.{◌≡◌, ◌≢◌, ◌%◌, ℕ, true, false, not, List, [], ◌∷◌, Option, None, Some}
+use Rattle.std.proofs.Common.{length, refl, sym, ◌∙◌, subst}
+use Rattle.std.specs.Prelude.{if◌then◌else◌, nat_eq}
 use Rattle.std.specs.List.{AllByRecursion}
 use Rattle.std.proofs.lemmas.Bool.{eq-eqb, or_left}
 use Rattle.gds_block.specs.Fields.{u32_at}
@@ -19,7 +19,6 @@ use Rattle.gds_tree.proofs.ItemLemmas.{lawful_items}
 use Rattle.gds_tree.proofs.LawfulLemmas.{each}
 use Rattle.gds_file.specs.FileLaws.{IsLawful}
 use Rattle.gds_file.specs.FreeLaws.{IsBusy}
-use Rattle.gds_file.specs.Maps.{has_block}
 use Rattle.gds_file.specs.Rewrite.{AreNoMaps}
 use Rattle.gds_splice.proofs.CountedLemmas.{same_one}
 use Rattle.gds_splice.proofs.ImageLemmas.{image_of}
@@ -27,7 +26,7 @@ use Rattle.gds_splice.proofs.WritingLemmas.{number_grown}
 use Rattle.m_key.specs.Key.{Below}
 use Rattle.gds_remove.specs.Block.{CannotFree, FreesOne}
 use Rattle.gds_remove.specs.Child.{CannotPrune, MayPrune, PrunesChild}
-use Rattle.gds_remove.specs.Cut.{CutsAt, HasPruned, LeavesNone, LeavesTree, NoneStands}
+use Rattle.gds_remove.specs.Cut.{CutsAt, LeavesNone, LeavesTree, NoneStands}
 use Rattle.gds_remove.specs.Range.{IsInBounds, IsLeft, IsPart, Left, Range, StaysLeft, TakesPart, is_in, left_by}
 use Rattle.gds_remove.proofs.LeavesLemmas.{leaves_compose, leaves_same, left_are_busy}
 
@@ -166,7 +165,8 @@ module _ (level : ℕ) (e : Item) (left after_left : Left) (before : List ℕ) w
   pub no_pointer : (length e.rest ≡ 4 → ⊥) → CannotPrune level e left before
   no_pointer not v from t range m = not m.size
 
-  module _ (part : Range) (takes : Takes left e.key after_left (Some part)) (child : ℕ) (is : child ≡ u32_at e.rest 0) where
+  module _ (part : Range) (takes : Takes left e.key after_left (Some part)) (child : ℕ)
+      (is : child ≡ u32_at e.rest 0) where
     pub cannot_cut : NoneStands child level before → CannotPrune level e left before
     cannot_cut cannot v from t range m = cannot (visit_below v level from e) t (sym is) m.stands
 

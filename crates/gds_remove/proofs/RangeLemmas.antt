@@ -1,5 +1,6 @@
 -- What is left of a range on a way along children, whose keys rise.
-use Rattle.std.proofs.Common.{◌≡◌, ◌≢◌, ◌⊎◌, ℕ, Bool, true, false, not, ◌&&◌, List, [], ◌∷◌, Option, None, Some, inl, inr}
+use Rattle.std.proofs.Common.{◌≡◌, ◌≢◌, ◌⊎◌, ℕ, Bool, true, false, not, ◌&&◌, List, [], ◌∷◌, Option, None, Some}
+use Rattle.std.proofs.Common.{inl, inr}
 use Rattle.std.proofs.Common.{length, refl, sym, ap, ◌∙◌, subst, arith}
 use Rattle.std.specs.Ordering.{is_le}
 use Rattle.std.specs.Prelude.{◌==◌}
@@ -7,10 +8,10 @@ use Rattle.std.proofs.lemmas.Bool.{and_right, cases_Bool, false≢true, ne_eqb}
 use Rattle.gds_law.specs.Record.{is_below}
 use Rattle.gds_sound.proofs.OrderLemmas.{cmp}
 use Rattle.gds_tree.specs.Lawful.{IsAboveLow}
-use Rattle.gds_tree.proofs.TestLemmas.{at_most, below_less, below_most, most_below, most_from, most_most, not_below}
-use Rattle.m_key.specs.Key.{AtMost, Below}
-use Rattle.gds_remove.specs.Range.{BeginsBehind, BeginsBelow, EndsBelow, GoesOn, IsInBounds, IsLeft, IsPart, IsReached}
-use Rattle.gds_remove.specs.Range.{Left, Range, StaysLeft, TakesPart, is_from, is_in, is_up_to}
+use Rattle.gds_tree.proofs.TestLemmas.{at_most, below_less, below_most, most_from, most_most, not_below}
+use Rattle.m_key.specs.Key.{Below}
+use Rattle.gds_remove.specs.Range.{BeginsBehind, BeginsBelow, EndsBelow, GoesOn, IsLeft, IsReached}
+use Rattle.gds_remove.specs.Range.{Left, Range, StaysLeft, TakesPart, is_from, is_up_to}
 
 -- A key that isn't at most another one is above it, and one without bytes is empty.
 not_most : (a b : List ℕ) (t : Bool) → t ≡ is_le (cmp a b) → t ≡ false → Below b a
@@ -91,7 +92,7 @@ none_past range from key left l past =
     record {
       part_is = (
         λ k bounds. and_right (is_from range.low k) (is_up_to range.high k)
-        (up_to_reached range.high from k r bounds.above),
+            (up_to_reached range.high from k r bounds.above),
         λ none. let e : None ≡ Some r.bound = sym none ∙ r.from_is in absurd (cc),
       );
       stays = stays range from key left l;
@@ -107,8 +108,8 @@ none_before range from key left l b =
     record {
       part_is = (
         λ k bounds.
-        ap (λ low. is_from low k && is_up_to range.high k) is
-        ∙ ap (λ t. not t && is_up_to range.high k) (below_most k key b.least (bounds.below b.some) b.most),
+            ap (λ low. is_from low k && is_up_to range.high k) is
+            ∙ ap (λ t. not t && is_up_to range.high k) (below_most k key b.least (bounds.below b.some) b.most),
         λ none. b.some,
       );
       stays = stays range from key left l;
@@ -153,13 +154,16 @@ low_taken : (low : Option (List ℕ)) (range : Range) (from : Option (List ℕ))
     → IsTaken range key
 low_taken None range from key (inl same) begins some above = inl same
 low_taken (Some low) range from key (inl same) begins some above =
-    inr (refl, record {
-      key = low;
-      bound = key;
-      end_is = sym same;
-      from_is = refl;
-      most = most_from low key (inl (below_less low key (begins some)));
-    })
+    inr (
+      refl,
+      record {
+        key = low;
+        bound = key;
+        end_is = sym same;
+        from_is = refl;
+        most = most_from low key (inl (below_less low key (begins some)));
+      },
+    )
 low_taken low range from key (inr gone) begins some above = inr (refl, reached_on range.low from key gone.1 above)
 
 pub some_part : (range : Range) (from : Option (List ℕ)) (key : List ℕ) (left : Left) (p : Bool)

@@ -1,5 +1,6 @@
 -- A range of keys that goes from the tree of a root.
-use Rattle.std.specs.Prelude.{◌≡◌, ◌≢◌, ◌≤◌, ◌+◌, ℕ, Bool, true, false, ◌&&◌, ◌==◌, not, IsTrue, MatchBool, List, [], ◌∷◌, filter}
+use Rattle.std.specs.Prelude.{◌≡◌, ◌≢◌, ◌≤◌, ◌+◌, ℕ, Bool, true, false, ◌&&◌, ◌==◌, not, IsTrue}
+use Rattle.std.specs.Prelude.{MatchBool, List, [], ◌∷◌, filter}
 use Rattle.host_model.specs.Failures.{Failures}
 use Rattle.host_model.specs.Files.{Contents}
 use Rattle.std.specs.Prelude.{Option}

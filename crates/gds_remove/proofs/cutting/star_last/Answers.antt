@@ -1,5 +1,4 @@
 use Rattle.gds_splice.proofs.ChangingLemmas.{star_put}
-use Rattle.gds_remove.proofs.CuttingLemmas.{begins, cut_total}
 use Rattle.gds_remove.proofs.cutting.star_last.Goals as goal
 
 pub returns : goal.returns

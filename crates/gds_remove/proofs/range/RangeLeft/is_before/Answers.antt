@@ -1,4 +1,4 @@
-use Rattle.std.proofs.Common.{ap, sym, ◌∙◌}
+use Rattle.std.proofs.Common.{ap, ◌∙◌}
 use Rattle.std.specs.Ordering.{is_le}
 use Rattle.gds_remove.specs.Range.{bytes_of}
 use Rattle.gds_remove.proofs.RangeLemmas.{begins_behind, begins_below}
