@@ -1,5 +1,6 @@
 -- The blocks of a tree below its root that are freed one child after another.
-use Rattle.std.proofs.Common.{◌≡◌, ◌≢◌, ◌+◌, ◌-◌, ◌<◌, ◌≤◌, ◌%◌, ℕ, zero, suc, false, List, [], ◌∷◌, ◌++◌, length, drop, get_or, Option, Some}
+use Rattle.std.proofs.Common.{◌≡◌, ◌≢◌, ◌+◌, ◌-◌, ◌<◌, ◌≤◌, ◌%◌, ℕ, zero, suc}
+use Rattle.std.proofs.Common.{false, List, [], ◌∷◌, ◌++◌, length, drop, get_or, Option, Some}
 use Rattle.std.proofs.Common.{refl, sym, ap, ◌∙◌, subst, arith}
 use Rattle.std.specs.Prelude.{nat_eq, IsTrue}
 use Rattle.std.specs.List.{AllByRecursion}
@@ -300,8 +301,8 @@ so_far_end before now n level xs k past so_far =
 
 -- one that stands before others
 pub so_far_at : (before now : List ℕ) (n level : ℕ) (xs : List Entry) (k : ℕ) (e : Entry) → k < length xs
-    → get_or xs k e ≡ e → FreesSoFar n level (items (drop k xs)) before now
+    → e ≡ get_or xs k e → FreesSoFar n level (items (drop k xs)) before now
     → FreesSoFar n level (item e ∷ items (drop (k + 1) xs)) before now
 so_far_at before now n level xs k e low here so_far =
     subst (λ (ys : List Entry). FreesSoFar n level (items ys) before now)
-    (drop_more xs k e low ∙ ap (λ y. y ∷ drop (k + 1) xs) here) so_far
+    (drop_more xs k e low ∙ ap (λ y. y ∷ drop (k + 1) xs) (sym here)) so_far

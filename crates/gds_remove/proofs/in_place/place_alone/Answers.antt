@@ -21,7 +21,8 @@ returns-then-own-used c es packed =
     let less : Below low high = ap is_lt (sym c.cmp.ensures) ∙ sym c.is_lt.ensures ∙ c.if-not-is_lt.false in
     let view = c.in_ok-view.ensures.1 in
     let h = hit low high bytes es place packed less
-    (c.in-Ok.ensures.found 0 es is_key (subst (λ b. IsPackedBlock b 0 es) (sym view) packed)) (not-false place.is_equal c.if-not-place.false) in
+    (c.in-Ok.ensures.found 0 es is_key (subst (λ b. IsPackedBlock b 0 es) (sym view) packed))
+    (not-false place.is_equal c.if-not-place.false) in
     let own = c.in_ok-own.ensures 0 es h.before h.behind h.own packed h.place_is.parts (sym h.place_is.offset)
     (own_front low high bytes es place packed less h) in
     last_alone low high bytes es place packed less h (omega (
@@ -43,7 +44,8 @@ returns c es packed =
     let less : Below low high = ap is_lt (sym c.cmp.ensures) ∙ sym c.is_lt.ensures ∙ c.if-not-is_lt.false in
     let view = c.in_ok-view.ensures.1 in
     let h = hit low high bytes es place packed less
-    (c.in-Ok.ensures.found 0 es is_key (subst (λ b. IsPackedBlock b 0 es) (sym view) packed)) (not-false place.is_equal c.if-not-place.false) in
+    (c.in-Ok.ensures.found 0 es is_key (subst (λ b. IsPackedBlock b 0 es) (sym view) packed))
+    (not-false place.is_equal c.if-not-place.false) in
     let own = c.in_ok-own.ensures 0 es h.before h.behind h.own packed h.place_is.parts (sym h.place_is.offset)
     (own_front low high bytes es place packed less h) in
     let n = has_next low high bytes es place packed less h (omega (

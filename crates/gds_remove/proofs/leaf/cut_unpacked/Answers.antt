@@ -65,8 +65,10 @@ returns-in_err-put_left-clause-ends g c =
     c.from_residual-in_err-put_left.result read.read.failures
     (λ cannot image is v t same s.
     let file : List ℕ = drafted c.args.draft.now image in
-    cannot (subst (MayPut c.read_level.new.base.header 0) (sym c.retain_outside.ensures ∙ ap items (sym c.deref.ensures.value))
-    (may_put_same (fields_of file) c.read_level.new.base.header 0 (left_by (range_of c.args.range) es) (ap (λ (k : Header). k.block_size)
+    cannot (subst (MayPut c.read_level.new.base.header 0)
+    (sym c.retain_outside.ensures ∙ ap items (sym c.deref.ensures.value))
+    (may_put_same (fields_of file) c.read_level.new.base.header 0 (left_by (range_of c.args.range) es)
+    (ap (λ (k : Header). k.block_size)
     (same_header h.told h.moment h.failures h.left_since c.args.base.now c.read_level.new.base read)
     ∙ sym c.requires.block_size
     ∙ sym (ap (λ (k : Header). k.block_size) (drafted_fields image c.args.draft.now (c.hold_draft.ensures image is))))
