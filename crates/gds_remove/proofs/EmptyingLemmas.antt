@@ -1,19 +1,17 @@
 -- The root of the directory is written over a block without entries, which was free.
-use Rattle.std.proofs.Common.{◌≡◌, ◌≢◌, ◌+◌, ◌<◌, ◌≤◌, ◌%◌, ◌||◌, ℕ, Bool, true, false, List, [], ◌∷◌, ◌++◌, length, None}
+use Rattle.std.proofs.Common.{◌≡◌, ◌≢◌, ◌<◌, ◌≤◌, ◌%◌, ◌||◌, ℕ, Bool, true, false, List, [], ◌∷◌}
 use Rattle.std.proofs.Common.{refl, sym, ap, ◌∙◌, subst, arith, inl, inr}
 use Rattle.std.specs.Prelude.{IsTrue, nat_eq}
 use Rattle.std.proofs.lemmas.Bool.{both_ways, eqb-true, ne_eqb, or_cases, or_left}
 use Rattle.std.proofs.lemmas.List.Elements.{All-from_recursion}
 use Rattle.gds_base.specs.Spaces.{TakesLeast}
-use Rattle.gds_block.specs.Fields.{u32_at, u32_bytes}
 use Rattle.gds_block.specs.Item.{Item}
 use Rattle.gds_block.proofs.FieldLemmas.{length-u32_bytes}
 use Rattle.gds_header.specs.Fields.{block_of, fields_of}
-use Rattle.gds_header.specs.Kinds.{IsWithinLimits}
 use Rattle.gds_header.specs.declared.header.Header.{Header}
 use Rattle.gds_law.specs.Visit.{Visit, directory_root}
 use Rattle.gds_pack.specs.Packable.{ArePackable}
-use Rattle.gds_pack.specs.Packed.{block_bytes, packed_size}
+use Rattle.gds_pack.specs.Packed.{block_bytes}
 use Rattle.gds_split.specs.Pieces.{entry_to}
 use Rattle.gds_split.proofs.AboveLemmas.{leads, pointer_to}
 use Rattle.gds_tree.specs.Below.{HasEntries, visit_below}

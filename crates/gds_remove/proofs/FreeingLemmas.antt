@@ -1,8 +1,9 @@
 -- The blocks of a tree below its root that are freed one child after another.
-use Rattle.std.proofs.Common.{◌≡◌, ◌≢◌, ◌+◌, ◌-◌, ◌<◌, ◌≤◌, ◌%◌, ℕ, zero, suc, false, List, [], ◌∷◌, ◌++◌, length, drop, get_or, Option, Some}
+use Rattle.std.proofs.Common.{◌≡◌, ◌≢◌, ◌+◌, ◌-◌, ◌<◌, ◌≤◌, ◌%◌, ℕ, zero, suc}
+use Rattle.std.proofs.Common.{false, List, [], ◌∷◌, ◌++◌, length, drop, get_or, Option, Some}
 use Rattle.std.proofs.Common.{refl, sym, ap, ◌∙◌, subst, arith}
-use Rattle.std.specs.Prelude.{nat_eq, IsTrue, All}
-use Rattle.std.specs.List.{AllByRecursion, IsDistinct}
+use Rattle.std.specs.Prelude.{nat_eq, IsTrue}
+use Rattle.std.specs.List.{AllByRecursion}
 use Rattle.std.proofs.lemmas.Bool.{or_left, eq-eqb}
 use Rattle.std.proofs.lemmas.List.{drop_all, drop_more}
 use Rattle.std.proofs.lemmas.List.Elements.{All-from_recursion}
@@ -12,10 +13,10 @@ use Rattle.gds_header.specs.Fields.{block_of, fields_of}
 use Rattle.gds_law.specs.Visit.{Visit}
 use Rattle.gds_pack.specs.Entry.{item, items}
 use Rattle.gds_pack.specs.declared.entry.Entry.{Entry}
-use Rattle.gds_sound.specs.Sound.{Tree, joined, sound_tree}
+use Rattle.gds_sound.specs.Sound.{Tree, sound_tree}
 use Rattle.gds_sound.proofs.CountLemmas.{count, count_append}
 use Rattle.gds_sound.proofs.PathLemmas.{any_counted, counted_any, counts_from_distinct, distinct_from_counts}
-use Rattle.gds_tree.specs.Below.{HasEntries, index_tree, leaf_tree, trees_below, visit_below}
+use Rattle.gds_tree.specs.Below.{trees_below, visit_below}
 use Rattle.gds_tree.specs.Keeps.{IsImage, KeepsBlocks}
 use Rattle.gds_tree.specs.Lawful.{IsLawfulEntry, IsPointer, IsTreeNumber}
 use Rattle.gds_tree.proofs.BelowLemmas.{both_parts, AreBoth}
@@ -26,7 +27,7 @@ use Rattle.gds_tree.proofs.TreeByLemmas.{by_index, by_leaf}
 use Rattle.gds_file.specs.FileLaws.{IsLawful}
 use Rattle.gds_file.specs.FreeLaws.{IsBusy}
 use Rattle.gds_file.specs.Maps.{has_block}
-use Rattle.gds_file.specs.Rewrite.{AreAllBusy, AreNoMaps}
+use Rattle.gds_file.specs.Rewrite.{AreNoMaps}
 use Rattle.gds_splice.proofs.CountedLemmas.{all_has, at_has, has_same, none_counted, same_one}
 use Rattle.gds_splice.proofs.ImageLemmas.{image_of, sizes_of}
 use Rattle.gds_remove.specs.Block.{AreEntriesAt, CannotFree, FreesBelow, FreesOne, HasNoEntries}
@@ -300,8 +301,8 @@ so_far_end before now n level xs k past so_far =
 
 -- one that stands before others
 pub so_far_at : (before now : List ℕ) (n level : ℕ) (xs : List Entry) (k : ℕ) (e : Entry) → k < length xs
-    → get_or xs k e ≡ e → FreesSoFar n level (items (drop k xs)) before now
+    → e ≡ get_or xs k e → FreesSoFar n level (items (drop k xs)) before now
     → FreesSoFar n level (item e ∷ items (drop (k + 1) xs)) before now
 so_far_at before now n level xs k e low here so_far =
     subst (λ (ys : List Entry). FreesSoFar n level (items ys) before now)
-    (drop_more xs k e low ∙ ap (λ y. y ∷ drop (k + 1) xs) here) so_far
+    (drop_more xs k e low ∙ ap (λ y. y ∷ drop (k + 1) xs) (sym here)) so_far

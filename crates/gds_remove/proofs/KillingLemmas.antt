@@ -1,12 +1,11 @@
 -- A range of keys is cut out of the tree of a root.
-use Rattle.std.proofs.Common.{◌≡◌, ◌≢◌, ◌+◌, ◌-◌, ◌<◌, ◌≤◌, ◌%◌, ◌/◌, ◌==◌, ◌&&◌, ◌||◌, ℕ, zero, suc, Bool, true, false}
-use Rattle.std.proofs.Common.{List, [], ◌∷◌, ◌++◌, length, Option, None, Some, refl, sym, ap, ◌∙◌, subst, arith, inl, inr}
-use Rattle.std.specs.Prelude.{IsTrue, MatchBool, nat_eq, nat_lt}
+use Rattle.std.proofs.Common.{◌≡◌, ◌≢◌, ◌+◌, ◌<◌, ◌≤◌, ◌%◌, ◌&&◌, ◌||◌, ℕ, zero, suc, true, false}
+use Rattle.std.proofs.Common.{List, [], ◌∷◌, None, Some, refl, sym, ap, ◌∙◌, subst, arith}
+use Rattle.std.specs.Prelude.{IsTrue, MatchBool, nat_eq}
 use Rattle.std.specs.List.{IsDistinct}
-use Rattle.std.proofs.lemmas.Bool.{eq-eqb, ne_eqb, lt-ltb, or_left, or_right}
+use Rattle.std.proofs.lemmas.Bool.{eq-eqb, ne_eqb, lt-ltb, or_left}
 use Rattle.gds_bitmap.specs.State.{is_free}
 use Rattle.gds_bitmap.specs.declared.state.State.TheVariants.{Recycled}
-use Rattle.gds_bitmap.specs.Pairs.{count_below}
 use Rattle.gds_block.specs.Block.{IsBlock, level_of}
 use Rattle.gds_block.specs.Item.{Item}
 use Rattle.gds_header.specs.Fields.{block_of, fields_of}
@@ -23,7 +22,6 @@ use Rattle.gds_tree.specs.RightBlock.{IsDueLevel}
 use Rattle.gds_tree.proofs.BelowLemmas.{both_parts, first_block, some_both}
 use Rattle.gds_tree.proofs.PartLemmas.{lawful_at}
 use Rattle.gds_tree.proofs.TreeByLemmas.{by_index, by_leaf, index_by, leaf_by}
-use Rattle.gds_file.specs.FileLaws.{IsLawful, StandsAt}
 use Rattle.gds_file.specs.FreeLaws.{IsBusy}
 use Rattle.gds_file.specs.Grow.{state_of}
 use Rattle.gds_file.specs.Maps.{has_block}
@@ -34,7 +32,7 @@ use Rattle.gds_splice.specs.Parted.{TreeBecomes}
 use Rattle.gds_splice.proofs.CountedLemmas.{distinct_more, same_one}
 use Rattle.gds_splice.proofs.ImageLemmas.{image_of}
 use Rattle.gds_splice.proofs.ToldLemmas.{is_block_at}
-use Rattle.gds_remove.specs.Cut.{Leaves, LeavesNone, LeavesTree, NoneStands, StandsBelow}
+use Rattle.gds_remove.specs.Cut.{LeavesNone, LeavesTree, NoneStands, StandsBelow}
 use Rattle.gds_remove.specs.Emptied.{CannotPutEmpty, HasEmptyDirectory, PutsEmptyDirectory}
 use Rattle.gds_remove.specs.Killed.{CannotKill, HasKilled, IsEmptied, IsEmptyDirectory, MayKill}
 use Rattle.gds_remove.specs.Range.{Range}
@@ -104,13 +102,16 @@ whole low high = record { low = Some low; high = Some high }
 module _ (before mid : List ℕ) (v : Visit) (level : ℕ) (t : Tree) (m : MayKill before v t)
     (s : StandsBelow before v level t) (low high : List ℕ) where
   pub some_killed : LeavesTree before mid v level t (whole low high) → HasKilled before mid v t low high false
-  some_killed left = (left.some, record {
-    tree = left.tree;
-    stands = record { sound = own_level mid level v left.tree left.sound; distinct = left.distinct };
-    items_are = left.items_are;
-    reshapes = left.leaves.reshapes;
-    lawful = left.leaves.lawful;
-  })
+  some_killed left = (
+    left.some,
+    record {
+      tree = left.tree;
+      stands = record { sound = own_level mid level v left.tree left.sound; distinct = left.distinct };
+      items_are = left.items_are;
+      reshapes = left.leaves.reshapes;
+      lawful = left.leaves.lawful;
+    },
+  )
 
   module _ (left : LeavesNone before mid t (whole low high) (v.block ∷ [])) where
     emptied : IsEmptied before mid v t
@@ -121,8 +122,11 @@ module _ (before mid : List ℕ) (v : Visit) (level : ℕ) (t : Tree) (m : MayKi
     }
 
     pub all_killed : v.block ≢ 1 → HasKilled before mid v t low high true
-    all_killed other = (left.none, subst (λ b. MatchBool b (IsEmptyDirectory before mid v t) (IsEmptied before mid v t))
-        (sym (ne_eqb v.block 1 other)) emptied)
+    all_killed other = (
+      left.none,
+      subst (λ b. MatchBool b (IsEmptyDirectory before mid v t) (IsEmptied before mid v t))
+          (sym (ne_eqb v.block 1 other)) emptied,
+    )
 
     -- the root's block is busy still
     pub root_busy : IsBusy mid v.block
@@ -209,8 +213,11 @@ module _ (before mid : List ℕ) (v : Visit) (level : ℕ) (t : Tree) (m : MayKi
           (record { becomes = becomes; leaf = put.leaf; root_has = put.root_has; leaf_has = put.leaf_has })
 
       pub directory_killed : HasKilled before after v t low high true
-      directory_killed = (left.none, subst (λ b. MatchBool b (IsEmptyDirectory before after v t)
-          (IsEmptied before after v t)) (sym (eq-eqb v.block 1 is)) emptied_directory)
+      directory_killed = (
+        left.none,
+        subst (λ b. MatchBool b (IsEmptyDirectory before after v t)
+            (IsEmptied before after v t)) (sym (eq-eqb v.block 1 is)) emptied_directory,
+      )
 
 -- ---- the directory may be written
 

@@ -1,36 +1,39 @@
 -- A leaf of which a range of keys is cut out.
-use Rattle.std.proofs.Common.{◌≡◌, ◌≢◌, ◌+◌, ◌<◌, ◌≤◌, ◌%◌, ◌||◌, ℕ, List, [], ◌∷◌, length, Some}
+use Rattle.std.proofs.Common.{◌≡◌, ◌≢◌, ◌≤◌, ◌%◌, ℕ, List, [], ◌∷◌, length}
 use Rattle.std.proofs.Common.{refl, sym, ap, ◌∙◌, subst, arith}
-use Rattle.std.specs.Prelude.{IsTrue, not, nat_eq}
+use Rattle.std.specs.Prelude.{not, nat_eq}
 use Rattle.std.specs.List.{IsDistinct}
 use Rattle.std.proofs.lemmas.List.{length-map}
+use Rattle.gds_base.specs.Put.{PutsBlock}
 use Rattle.gds_block.specs.Item.{Item}
-use Rattle.gds_header.specs.Fields.{fields_of}
+use Rattle.gds_edit.specs.Edited.{IsEdited}
+use Rattle.gds_header.specs.Fields.{block_of, fields_of}
 use Rattle.gds_header.specs.declared.header.Header.{Header}
 use Rattle.gds_law.specs.Visit.{Visit}
 use Rattle.gds_pack.specs.Entry.{item, items}
-use Rattle.gds_pack.specs.Packed.{packed_size}
 use Rattle.gds_pack.specs.declared.entry.Entry.{Entry}
-use Rattle.gds_sound.specs.Sound.{Tree, sound_tree}
+use Rattle.gds_sound.specs.Sound.{Tree}
 use Rattle.gds_tree.specs.Below.{HasEntries, leaf_tree}
+use Rattle.gds_tree.specs.Keeps.{IsImage}
 use Rattle.gds_tree.specs.Lawful as entries
 use Rattle.gds_tree.specs.RightBlock.{IsDueLevel}
 use Rattle.gds_tree.proofs.FaultlessLemmas.{written_entries}
 use Rattle.gds_tree.proofs.PartLemmas.{lawful_at}
 use Rattle.gds_tree.proofs.TreeByLemmas.{LeafBy, by_leaf, leaf_by}
 use Rattle.gds_file.specs.Maps.{has_block}
-use Rattle.gds_file.specs.Rewrite.{AreNoMaps}
+use Rattle.gds_file.specs.Rewrite.{AreNoMaps, Rewrites}
 use Rattle.gds_file.proofs.RewriteLemmas.{rewrite_keeps_header, rewrite_stays_lawful}
 use Rattle.gds_splice.specs.Divided.{MayPut}
 use Rattle.gds_splice.specs.Writing.{PutsEntries}
 use Rattle.gds_splice.proofs.CountedLemmas.{same_one}
 use Rattle.gds_splice.proofs.ImageLemmas.{image_of}
 use Rattle.gds_remove.specs.Block.{AreEntriesAt, HasNoEntries}
-use Rattle.gds_remove.specs.Cut.{CutsAt, HasCut, Leaves, LeavesNone, LeavesTree, NoneStands, StandsBelow}
+use Rattle.gds_remove.specs.Cut.{Leaves, LeavesNone, LeavesTree, NoneStands, StandsBelow}
 use Rattle.gds_remove.specs.Range.{Range, is_in, left_by}
+use Rattle.gds_remove.proofs.EditedLemmas.{edited_there}
 use Rattle.gds_remove.proofs.FreeingLemmas.{image_below}
 use Rattle.gds_remove.proofs.LeavesLemmas.{leaves_same, leaves_written}
-use Rattle.gds_remove.proofs.LeftItemsLemmas.{filter_same, left_lawful, left_packed}
+use Rattle.gds_remove.proofs.LeftItemsLemmas.{filter_leaves, filter_same, left_lawful, left_packed}
 
 -- A leaf that can't be read.
 pub no_leaf_none : (file : List ℕ) (n : ℕ) → HasNoEntries n 0 file → NoneStands n 0 file
@@ -114,8 +117,7 @@ module _ (before : List ℕ) (range : Range) (es : List Item) where
     -- some are left, and may be put into the block
     pub left_may : left ≢ [] → MayPut (fields_of before) 0 left
     left_may some = record {
-      packable = (left_lawful (λ e. not (is_in range e.key)) (fields_of before) v es some
-          (lawful_at before v 0 es has)).packable;
+      packable = filter_leaves (λ e. not (is_in range e.key)) [] es (lawful_at before v 0 es has).packable;
       fits = omega (
         arith,
         left_packed (λ e. not (is_in range e.key)) es,
@@ -123,33 +125,51 @@ module _ (before : List ℕ) (range : Range) (es : List Item) where
       );
     }
 
-    module _ (some : left ≢ []) (after : List ℕ) (put : PutsEntries before after v.block 0 left) where
+    -- the entries that are left are lawful too
+    pub still_lawful : left ≢ [] → entries.IsLawful (fields_of before) v 0 left
+    still_lawful some =
+        left_lawful (λ e. not (is_in range e.key)) (fields_of before) v es some (lawful_at before v 0 es has)
+
+    module _ (some : left ≢ []) (after : List ℕ) (r : Rewrites before after (v.block ∷ [])) where
       fields : fields_of after ≡ fields_of before
-      fields = rewrite_keeps_header before after (v.block ∷ []) put.rewrites
+      fields = rewrite_keeps_header before after (v.block ∷ []) r
 
       proper : AreNoMaps (v.block ∷ [])
       proper n there = subst (λ k. k % 512 ≢ 0) (sym (same_one n v.block there)) s.number.no_map
 
-      there_now : HasEntries after v 0 left
-      there_now =
-          let l = rewrite_stays_lawful before after (v.block ∷ []) s.maps put.rewrites proper in
-          let j = image_of after l in
-          let h = ap (λ (k : Header). k.total) fields in
-          written_entries after v 0 0 left j (omega (arith, s.number.within, h)) put.bytes
-          (subst (λ k. entries.IsLawful k v 0 left) (sym fields)
-          (left_lawful (λ e. not (is_in range e.key)) (fields_of before) v es some (lawful_at before v 0 es has)))
-          put.fits (subst (IsDueLevel v.level) has.level has.right.head.level)
-          (omega (arith, has.right.head.stamped.tn, ap (λ (k : Header). k.tn) fields)) (omega arith)
+      j : IsImage after
+      j = image_of after (rewrite_stays_lawful before after (v.block ∷ []) s.maps r proper)
 
-      pub some_left : LeavesTree before after v 0 t range
-      some_left = record {
+      -- they stand in the block
+      pub left_there : HasEntries after v 0 left → LeavesTree before after v 0 t range
+      left_there there = record {
         tree = leaf_tree v left;
-        sound = leaf_by after v left
-            (image_of after (rewrite_stays_lawful before after (v.block ∷ []) s.maps put.rewrites proper)) there_now;
+        sound = leaf_by after v left j there;
         distinct = subst (IsDistinct nat_eq) only s.distinct;
         items_are = left_are;
         some = λ none. some (left_are ∙ none);
         leaves = subst (Leaves before after t.blocks) only
-            (leaves_written before after (v.block ∷ []) t.blocks put.rewrites proper
+            (leaves_written before after (v.block ∷ []) t.blocks r proper
             (λ n there. ap (λ bs. has_block bs n) only ∙ there) s.busy s.maps);
       }
+
+    -- they are packed into it anew
+    pub some_left : left ≢ [] → (after : List ℕ) → PutsEntries before after v.block 0 left
+        → LeavesTree before after v 0 t range
+    some_left some after put =
+        let same = fields some after put.rewrites in
+        left_there some after put.rewrites
+        (written_entries after v 0 0 left (j some after put.rewrites)
+        (omega (arith, s.number.within, ap (λ (k : Header). k.total) same)) put.bytes
+        (subst (λ k. entries.IsLawful k v 0 left) (sym same) (still_lawful some))
+        put.fits (subst (IsDueLevel v.level) has.level has.right.head.level)
+        (omega (arith, has.right.head.stamped.tn, ap (λ (k : Header). k.tn) same)) (omega arith))
+
+    -- the block is edited
+    pub left_edited : left ≢ [] → (after new : List ℕ) → PutsBlock before after v.block new
+        → IsEdited (block_of before v.block) new 0 left → length new ≡ length (block_of before v.block)
+        → LeavesTree before after v 0 t range
+    left_edited some after new put edited long =
+        left_there some after put.rewrites
+        (edited_there before after new v es left (image_below before v 0 t s) has (still_lawful some) edited long
+        (fields some after put.rewrites) put.bytes_are)

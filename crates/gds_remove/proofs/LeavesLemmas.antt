@@ -1,17 +1,15 @@
 -- Blocks of trees that are left one change after another, beside others, and where one block is freed or written.
-use Rattle.std.proofs.Common.{◌≡◌, ◌≢◌, ◌≤◌, ℕ, ◌*◌, ◌/◌, ◌%◌, Bool, true, false, not, ◌&&◌, ◌||◌, List, [], ◌∷◌, ◌++◌, inl, inr}
-use Rattle.std.proofs.Common.{refl, sym, ap, ◌∙◌, subst, arith}
-use Rattle.std.specs.Prelude.{nat_eq, IsTrue}
-use Rattle.std.proofs.lemmas.Bool.{cases_Bool, cases_eq, both_ways, eqb-true, false≢true, or_cases, or_left, or_parts}
+use Rattle.std.proofs.Common.{◌≡◌, ℕ, ◌*◌, ◌/◌, ◌%◌, false, not, ◌&&◌, List, [], ◌∷◌, ◌++◌, inl, inr}
+use Rattle.std.proofs.Common.{sym, ap, ◌∙◌, arith}
+use Rattle.std.specs.Prelude.{IsTrue}
+use Rattle.std.proofs.lemmas.Bool.{cases_Bool, cases_eq, both_ways, false≢true, or_cases, or_left, or_parts}
 use Rattle.std.proofs.lemmas.Bool.{false_from_ne_true, or_right}
 use Rattle.gds_base.specs.Spaces.{Recycles}
 use Rattle.gds_bitmap.specs.Bitmap.{state_at}
-use Rattle.gds_bitmap.specs.declared.state.State.TheVariants.{Recycled}
 use Rattle.gds_file.specs.FileLaws.{IsLawful}
 use Rattle.gds_file.specs.FreeLaws.{IsBusy}
 use Rattle.gds_file.specs.Grow.{state_of}
 use Rattle.gds_file.specs.Maps.{has_block}
-use Rattle.gds_file.specs.Reshape.{Reshapes}
 use Rattle.gds_file.specs.Rewrite.{AreAllBusy, AreNoMaps, Rewrites}
 use Rattle.gds_file.proofs.FreeLemmas.{free_reshapes}
 use Rattle.gds_file.proofs.ReshapeLemmas.{has_append, nothing_reshapes, reshapes_compose, reshapes_in_any_order}
@@ -19,7 +17,6 @@ use Rattle.gds_file.proofs.ReshapeLemmas.{reshapes_with_more}
 use Rattle.gds_file.proofs.RightMapLemmas.{busy_within}
 use Rattle.gds_file.proofs.RewriteLemmas.{rewrite_is_reshape, rewrite_keeps_header, rewrite_stays_lawful}
 use Rattle.gds_header.specs.declared.header.Header.{Header}
-use Rattle.gds_header.specs.Fields.{fields_of}
 use Rattle.gds_law.specs.Maps.{map_of}
 use Rattle.gds_splice.proofs.CountedLemmas.{same_one}
 use Rattle.gds_remove.specs.Cut.{KeepsRecycled, Leaves}
@@ -113,7 +110,7 @@ module _ (before after : List ℕ) (block : ℕ) (r : Recycles before after bloc
     | inl mine ↦ elim (cases_eq (n % 512) (block % 512)) [
       | inl same ↦ (λ i. state_at (map_of after (mine i)) (same i)) ∙ r.pair.marked
       | inr other ↦ ap (λ g. state_at (map_of after g) (n % 512)) mine ∙ r.pair.others (n % 512) other
-        ∙ ap (λ g. state_at (map_of before g) (n % 512)) (sym mine) ∙ is
+          ∙ ap (λ g. state_at (map_of before g) (n % 512)) (sym mine) ∙ is
     ]
     | inr other ↦
         ap (λ map. state_at map (n % 512)) (r.others (512 * (n / 512)) (λ e. other (omega (arith, e)))) ∙ is

@@ -1,5 +1,5 @@
 -- Items of a leaf that are left by a test: they are packable and lawful still, and need no more bytes.
-use Rattle.std.proofs.Common.{◌≡◌, ◌≢◌, ◌+◌, ◌≤◌, ℕ, Bool, true, false, not, List, [], ◌∷◌, ◌++◌, length, filter}
+use Rattle.std.proofs.Common.{◌≡◌, ◌≢◌, ◌≤◌, ℕ, Bool, true, false, not, List, [], ◌∷◌, ◌++◌, length, filter}
 use Rattle.std.proofs.Common.{refl, sym, ap, subst, arith, append_assoc, ◌∙◌}
 use Rattle.std.specs.List.{AllByRecursion}
 use Rattle.std.proofs.lemmas.Bool.{cond-true, cond-false}
@@ -57,7 +57,7 @@ module _ (test : Item → Bool) where
     are.1.1,
   )
 
-  filter_leaves : (p : List ℕ) (es : List Item) → AreLeaves p es → AreLeaves p (filter test es)
+  pub filter_leaves : (p : List ℕ) (es : List Item) → AreLeaves p es → AreLeaves p (filter test es)
   filter_leaves p [] are = tt
   filter_leaves p (e ∷ es) are =
       filter_by test (AreLeaves p) e es (λ is. (are.0, filter_leaves e.key es are.1))

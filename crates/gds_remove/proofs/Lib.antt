@@ -1,4 +1,11 @@
 pub mod LeavesLemmas
+pub mod KeptLemmas
+pub mod RangeLemmas
+pub mod BoundLemmas
+pub mod SoFarLemmas
+pub mod NextLemmas
+pub mod PruneLemmas
+pub mod EndLemmas
 pub mod WritesLemmas
 pub mod NodeLemmas
 pub mod FreeingLemmas
@@ -6,3 +13,6 @@ pub mod LeftItemsLemmas
 pub mod LeafLemmas
 pub mod EmptyingLemmas
 pub mod KillingLemmas
+pub mod AloneLemmas
+pub mod EditedLemmas
+pub mod CuttingLemmas

@@ -1,16 +1,12 @@
 -- What a block that isn't what it was says of a call, and when a block of a tree can be read.
-use Rattle.std.proofs.Common.{◌≡◌, ◌<◌, ℕ, List, Result, Ok, Err, arith, sym, ap, ◌∙◌, subst}
+use Rattle.std.proofs.Common.{◌<◌, ℕ, List, Result, Ok, Err, arith, sym, ap, ◌∙◌, subst}
 use Rattle.host_model.specs.Failures.{Failures, NeverFell}
 use Rattle.gds_base.specs.Ending.{EndsReading}
 use Rattle.gds_base.specs.declared.error.BaseError.{BaseError}
 use Rattle.gds_base.specs.declared.error.BaseError.TheVariants as answer
 use Rattle.gds_block.specs.Block.{IsBlock}
-use Rattle.gds_block.specs.Item.{Item}
 use Rattle.gds_header.specs.Fields.{block_of, fields_of}
-use Rattle.gds_law.specs.Visit.{Visit}
 use Rattle.gds_pack.specs.Unpacked.{entries_of}
-use Rattle.gds_tree.specs.Below.{HasEntries}
-use Rattle.gds_tree.specs.Keeps.{IsImage}
 use Rattle.gds_splice.specs.Writing.{CannotRead}
 use Rattle.gds_splice.proofs.ToldLemmas.{is_block_at}
 use Rattle.gds_remove.specs.Block.{HasNoEntries, IsChanged}

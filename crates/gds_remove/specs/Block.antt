@@ -1,5 +1,5 @@
 -- Blocks of a tree that are read, written and freed.
-use Rattle.std.specs.Prelude.{◌≡◌, ◌≤◌, ◌+◌, ◌%◌, ◌≢◌, ℕ, IsTrue, List, [], ◌∷◌}
+use Rattle.std.specs.Prelude.{◌≡◌, ◌≤◌, ◌+◌, ℕ, List, [], ◌∷◌}
 use Rattle.gds_base.specs.declared.error.BaseError.{BaseError}
 use Rattle.gds_base.specs.declared.error.BaseError.TheVariants.{Changed}
 use Rattle.gds_base.specs.Spaces.{blocks_beside_maps}
@@ -49,4 +49,3 @@ FreesOne block before after =
 -- It is no block that a tree may have in a file with lawful maps.
 abbrev pub CannotFree : ℕ → List ℕ → Type 0
 CannotFree block file = IsLawful file → IsTreeNumber (fields_of file).total block → ⊥
-

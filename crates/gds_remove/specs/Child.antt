@@ -40,5 +40,7 @@ PutsKept block level count kept false before after =
     × (count ≤ length kept → after ≡ before)
 
 -- Some went and some are kept, and a block can't have these.
-abbrev pub CannotPutKept : Header → ℕ → ℕ → List Item → Type 0
-CannotPutKept h level count kept = kept ≢ [] → length kept < count → MayPut h level (starred kept) → ⊥
+pub record CannotPutKept (h : Header) (level count : ℕ) (kept : List Item) : Type 0 where
+  pub some : kept ≢ []
+  pub fewer : length kept < count
+  pub cannot : MayPut h level (starred kept) → ⊥

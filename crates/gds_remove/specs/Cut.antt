@@ -2,7 +2,6 @@
 use Rattle.std.specs.Prelude.{◌≡◌, ◌≢◌, ◌≤◌, ℕ, Bool, true, false, IsTrue, List, [], ◌∷◌, nat_eq, Some}
 use Rattle.std.specs.List.{IsDistinct}
 use Rattle.gds_bitmap.specs.declared.state.State.TheVariants.{Recycled}
-use Rattle.gds_block.specs.Item.{Item}
 use Rattle.gds_header.specs.Fields.{fields_of}
 use Rattle.gds_law.specs.Visit.{Visit}
 use Rattle.gds_sound.specs.Sound.{Tree, sound_tree}

@@ -1,5 +1,6 @@
 -- A range of keys that goes from the tree of a root.
-use Rattle.std.specs.Prelude.{◌≡◌, ◌≢◌, ◌≤◌, ◌+◌, ℕ, Bool, true, false, ◌&&◌, ◌==◌, not, IsTrue, MatchBool, List, [], ◌∷◌, filter}
+use Rattle.std.specs.Prelude.{◌≡◌, ◌≢◌, ◌≤◌, ◌+◌, ℕ, Bool, true, false, ◌&&◌, ◌==◌, not, IsTrue}
+use Rattle.std.specs.Prelude.{MatchBool, List, [], ◌∷◌, filter}
 use Rattle.host_model.specs.Failures.{Failures}
 use Rattle.host_model.specs.Files.{Contents}
 use Rattle.std.specs.Prelude.{Option}
@@ -20,7 +21,6 @@ use Rattle.gds_splice.specs.Parted.{IsRoot, TreeBecomes}
 use Rattle.gds_tree.specs.Below.{HasEntries, visit_below}
 use Rattle.gds_units.specs.Reading.{OnlyRead}
 use Rattle.gds_units.specs.State.{UnitsState}
-use Rattle.std.specs.Prelude.{None}
 
 -- A sound tree stands at a root, and its blocks are busy in a file with lawful maps. At block 1 it is the directory.
 pub record MayKill (file : List ℕ) (v : Visit) (t : Tree) : Type 0 where

@@ -4,3 +4,4 @@ pub mod Child
 pub mod Block
 pub mod Killed
 pub mod Emptied
+pub mod Alone

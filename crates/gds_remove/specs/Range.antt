@@ -66,12 +66,33 @@ pub record IsReached (end from : Option (List ℕ)) : Type 0 where
   pub from_is : from ≡ Some bound
   pub most : AtMost key bound
 
--- This is left of a range for keys from a lower bound on: the least key, unless it isn't above the bound; the other end;
--- and whether that isn't above it either.
+-- This is left of a range for keys from a lower bound on: the least key, unless it isn't above the bound; the other
+-- end; and whether that isn't above it either.
 pub record IsLeft (range : Range) (from : Option (List ℕ)) (left : Left) : Type 0 where
   pub low : (left.low ≡ range.low) ⊎ ((left.low ≡ None) × IsReached range.low from)
   pub high : left.high ≡ range.high
   pub past : left.past ≡ true → IsReached range.high from
+
+-- A range with this least key begins behind a child whose keys are below one, or before that key; and one that ends at
+-- a key has its end among the child's keys or before them, or goes on behind them. The last child has no such key.
+pub record BeginsBehind (low : Option (List ℕ)) (key : List ℕ) : Type 0 where
+  pub least : List ℕ
+  pub low_is : low ≡ Some least
+  pub some : key ≢ []
+  pub most : AtMost key least
+
+abbrev pub BeginsBelow : Option (List ℕ) → List ℕ → Type 0
+BeginsBelow None key = Unit {0}
+BeginsBelow (Some low) key = key ≢ [] → Below low key
+
+pub record EndsBelow (high : Option (List ℕ)) (key : List ℕ) : Type 0 where
+  pub end : List ℕ
+  pub high_is : high ≡ Some end
+  pub most : key ≢ [] → AtMost end key
+
+abbrev pub GoesOn : Option (List ℕ) → List ℕ → Type 0
+GoesOn None key = Unit {0}
+GoesOn (Some high) key = (key ≢ []) × Below key high
 
 -- how many ends are left
 abbrev pub ends_left : Left → ℕ

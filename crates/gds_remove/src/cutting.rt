@@ -47,6 +47,7 @@ pub(crate) fn cut<H: Host>(
     if level == 0 {
         return cut_leaf(alloc, base, draft, n, range);
     }
+    base.hold_draft(draft);
     let entries = read_level(alloc, base, draft, n, level)?;
     let count = entries.len();
     let mut kept = Vec::new(alloc);

@@ -4,6 +4,7 @@
 mod cutting;
 mod emptying;
 mod freeing;
+mod in_place;
 mod killing;
 mod leaf;
 mod node;

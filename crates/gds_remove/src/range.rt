@@ -1,5 +1,6 @@
-ghost use Rattle.std.specs.Prelude.{◌≡◌, ◌+◌, ◌≤◌, ◌↔◌, IsTrue, List, None, Option, ℕ, option_map};
-ghost use Rattle.gds_remove.specs.Range.{IsLeft, Range, TakesPart, bytes_of, ends_left, ends_of, is_from, is_in, is_up_to};
+ghost use Rattle.std.specs.Prelude.{◌≡◌, ◌+◌, ◌≤◌, ◌↔◌, IsTrue, List, None, Option, false, ℕ, option_map};
+ghost use Rattle.gds_remove.specs.Range.{BeginsBehind, BeginsBelow, EndsBelow, GoesOn, IsLeft, Range};
+ghost use Rattle.gds_remove.specs.Range.{TakesPart, bytes_of, ends_left, ends_of, is_from, is_in, is_up_to};
 ghost use Rattle.gds_remove.specs.Range.{left_of, range_of};
 
 /// A range of keys: those from a least one on and below another one. Without the least one it begins at the first key,
@@ -64,22 +65,38 @@ impl<'a> RangeLeft<'a> {
         ensures ends { ends_left (left_of self.new) + ends_of (option_map range_of result)
             ≤ ends_left (left_of self.old) }
     {
-        if self.is_past || self.is_before(key) {
+        if self.is_past {
             return None;
         }
+        if self.is_before(key) {
+            return None;
+        }
+        let is_past = self.ends_below(key);
+        let high = if is_past { self.range.high } else { None };
         let low = self.range.low.take();
-        self.is_past = self.ends_below(key);
-        let high = if self.is_past { self.range.high } else { None };
+        self.is_past = is_past;
         Some(KeyRange { low, high })
     }
 
     // Whether the range begins behind the child.
-    fn is_before(&self, key: &[u8]) -> bool {
-        !key.is_empty() && self.range.low.is_some_and(|low| key <= low)
+    fn is_before(&self, key: &[u8]) -> bool
+        ensures before { IsTrue result → BeginsBehind (bytes_of self.now.range.low) key.now }
+        ensures reached { result ≡ false → BeginsBelow (bytes_of self.now.range.low) key.now }
+    {
+        let Some(low) = self.range.low else {
+            return false;
+        };
+        !key.is_empty() && key.cmp(low).is_le()
     }
 
     // Whether it ends in the child's bounds, or that isn't known.
-    fn ends_below(&self, key: &[u8]) -> bool {
-        self.range.high.is_some_and(|high| key.is_empty() || high <= key)
+    fn ends_below(&self, key: &[u8]) -> bool
+        ensures ends { IsTrue result → EndsBelow (bytes_of self.now.range.high) key.now }
+        ensures goes_on { result ≡ false → GoesOn (bytes_of self.now.range.high) key.now }
+    {
+        let Some(high) = self.range.high else {
+            return false;
+        };
+        key.is_empty() || high.cmp(key).is_le()
     }
 }

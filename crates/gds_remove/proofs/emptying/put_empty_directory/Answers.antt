@@ -1,20 +1,15 @@
-use Rattle.std.proofs.Common.{◌+◌, ◌<◌, ◌≤◌, [], ◌∷◌, ℕ, List, ap, sym, ◌∙◌, subst, arith}
+use Rattle.std.proofs.Common.{◌<◌, [], ◌∷◌, ℕ, List, ap, sym, ◌∙◌, subst, arith}
 use Rattle.std.proofs.lemmas.Result.{on_ok_weaker}
 use Rattle.host_model.proofs.FailureLemmas.{NeverFell-refl}
 use Rattle.gds_draft.specs.Drafted.{drafted}
-use Rattle.gds_header.specs.Fields.{fields_of}
 use Rattle.gds_header.specs.declared.header.Header.{Header}
-use Rattle.gds_file.specs.FileLaws.{IsLawful}
-use Rattle.gds_pack.specs.Entry.{item, items}
-use Rattle.gds_pack.specs.declared.entry.Entry.{Entry}
 use Rattle.gds_splice.specs.Divided.{MayPut}
 use Rattle.gds_splice.specs.Writing.{PutsEntries}
-use Rattle.gds_splice.proofs.DraftingLemmas.{draft_after, ends_exit, same_header, same_image, same_total}
+use Rattle.gds_splice.proofs.DraftingLemmas.{ends_exit, same_header, same_image}
 use Rattle.gds_splice.proofs.EntriesPutLemmas.{drafted_fields}
 use Rattle.gds_remove.proofs.EmptyingLemmas.{emptied, may_put_none, may_put_star, sized}
 use Rattle.gds_remove.proofs.NodeLemmas.{ends_then}
-use Rattle.gds_remove.proofs.WritesLemmas.{OnlyWrites-drafts, OnlyWrites-one, OnlyWrites-then, OnlyWrites-weaker}
-use Rattle.gds_remove.proofs.WritesLemmas.{draft_with_one}
+use Rattle.gds_remove.proofs.WritesLemmas.{OnlyWrites-drafts, OnlyWrites-weaker}
 use Rattle.gds_remove.proofs.emptying.put_empty_directory.Goals as goal
 
 pub returns-in_err-leaf-clause-drafts : goal.returns-in_err-leaf-clause-drafts

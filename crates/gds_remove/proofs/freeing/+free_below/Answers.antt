@@ -1,7 +1,5 @@
-use Rattle.std.proofs.Common.{◌≡◌, ◌≢◌, ◌+◌, ◌-◌, ◌<◌, ◌∷◌, [], ℕ, zero, suc, List, drop, length, refl, sym, ap, ◌∙◌}
-use Rattle.std.proofs.Common.{subst, arith}
-use Rattle.std.proofs.lemmas.List.{drop_more}
-use Rattle.std.proofs.lemmas.Result.{on_ok_weaker}
+use Rattle.std.proofs.Common.{◌+◌, ◌-◌, ℕ, List, drop, length, sym, ap, ◌∙◌}
+use Rattle.std.proofs.Common.{subst}
 use Rattle.host_model.proofs.FailureLemmas.{NeverFell-refl}
 use Rattle.gds_block.specs.Fields.{u32_at}
 use Rattle.gds_draft.specs.Drafted.{drafted}
@@ -48,7 +46,7 @@ returns-in_default-clause-ends g t c =
     let before : List ℕ = drafted c.args.draft.now image in
     let now : List ℕ = drafted c.loop-entry.draft image in
     cannot_point before now c.args.n (item e) (items (drop (k + 1) entries)) c.args.level c.if-level-eq0.false
-    (so_far_at before now c.args.n c.args.level entries k e c.loop-entry-test.true (sym c.entry-item.is)
+    (so_far_at before now c.args.n c.args.level entries k e c.loop-entry-test.true c.entry-item.is
     (c.loop-entry.invariant.frees image is)) (λ size. c.in_default.ensures (ap length c.deref.ensures.value ∙ size)))
 
 pub returns-in_err-free_below-clause-ends : goal.returns-in_err-free_below-clause-ends
@@ -65,7 +63,7 @@ returns-in_err-free_below-clause-ends g t c =
     let before : List ℕ = drafted c.args.draft.now image in
     let now : List ℕ = drafted c.loop-entry.draft image in
     cannot_below before now c.args.n (item e) (items (drop (k + 1) entries)) c.args.level c.if-level-eq0.false
-    (so_far_at before now c.args.n c.args.level entries k e c.loop-entry-test.true (sym c.entry-item.is)
+    (so_far_at before now c.args.n c.args.level entries k e c.loop-entry-test.true c.entry-item.is
     (c.loop-entry.invariant.frees image is))
     (subst (λ child. NoneStands child (c.args.level - 1) now)
     (c.in-Some.ensures.1 ∙ ap (λ bs. u32_at bs 0) c.deref.ensures.value)
@@ -92,7 +90,7 @@ returns-in_err-free_tested-clause-ends g t c =
     let mid : List ℕ = drafted c.free_below.new.draft image in
     let same = same_image h.told h.moment h.failures h.left_since c.args.base.now c.loop-entry.base only.read in
     cannot_one before now c.args.n (item e) (items (drop (k + 1) entries)) mid c.args.level c.if-level-eq0.false
-    (so_far_at before now c.args.n c.args.level entries k e c.loop-entry-test.true (sym c.entry-item.is)
+    (so_far_at before now c.args.n c.args.level entries k e c.loop-entry-test.true c.entry-item.is
     (c.loop-entry.invariant.frees image is))
     (subst (λ child. FreesBelow child (c.args.level - 1) now mid)
     (c.in-Some.ensures.1 ∙ ap (λ bs. u32_at bs 0) c.deref.ensures.value)
@@ -123,10 +121,10 @@ loop-entry-preserved g t c =
           let after : List ℕ = drafted c.free_tested.new.draft image in
           let same = same_image h.told h.moment h.failures h.left_since c.args.base.now c.loop-entry.base only.read in
           so_far_next before now c.args.n (item e) (items (drop (k + 1) entries)) mid after c.args.level
-          (so_far_at before now c.args.n c.args.level entries k e c.loop-entry-test.true (sym c.entry-item.is)
+          (so_far_at before now c.args.n c.args.level entries k e c.loop-entry-test.true c.entry-item.is
           (c.loop-entry.invariant.frees image is))
           (subst (λ child. FreesBelow child (c.args.level - 1) now mid)
-    (c.in-Some.ensures.1 ∙ ap (λ bs. u32_at bs 0) c.deref.ensures.value)
+          (c.in-Some.ensures.1 ∙ ap (λ bs. u32_at bs 0) c.deref.ensures.value)
           (c.in_ok-free_below.ensures.freed image (same ∙ is)))
           (subst (λ child. FreesOne child mid after)
           (c.in-Some.ensures.1 ∙ ap (λ bs. u32_at bs 0) c.deref.ensures.value)

@@ -1,4 +1,4 @@
-use Rattle.std.proofs.Common.{◌≡◌, Bool, false, true, List, ℕ, sym, ◌∙◌, subst}
+use Rattle.std.proofs.Common.{Bool, List, ℕ, sym, ◌∙◌, subst}
 use Rattle.gds_draft.specs.Drafted.{drafted}
 use Rattle.gds_splice.proofs.DraftingLemmas.{OnlyRead-then, ends_exit, same_image}
 use Rattle.gds_remove.specs.Cut.{HasCut}

@@ -1,7 +1,7 @@
-use Rattle.std.proofs.Common.{Bool, List, [], ℕ, vec_len, sym, ap, ◌∙◌, subst, arith, rules}
+use Rattle.std.proofs.Common.{Bool, List, ℕ, vec_len, sym, ap, ◌∙◌, subst, arith}
 use Rattle.std.proofs.lemmas.Bool.{both_ways, eq-eqb, eqb-true}
 use Rattle.std.specs.Global.{Vec}
-use Rattle.gds_pack.specs.Entry.{item, items}
+use Rattle.gds_pack.specs.Entry.{items}
 use Rattle.gds_pack.specs.declared.entry.Entry.{Entry}
 use Rattle.host_model.proofs.FailureLemmas.{NeverFell-refl}
 use Rattle.gds_block.specs.Item.{Item}
@@ -16,7 +16,7 @@ use Rattle.gds_remove.specs.Block.{AreEntriesAt}
 use Rattle.gds_remove.specs.Range.{left_by, range_of}
 use Rattle.gds_remove.proofs.LeafLemmas.{all_left, as_many, left_may, may_put_same, no_leaf_none, none_in, none_left}
 use Rattle.gds_remove.proofs.LeafLemmas.{some_in, some_left}
-use Rattle.gds_remove.proofs.leaf.cut_leaf.Goals as goal
+use Rattle.gds_remove.proofs.leaf.cut_unpacked.Goals as goal
 
 pub returns-in_err-entries-clause-ends : goal.returns-in_err-entries-clause-ends
 returns-in_err-entries-clause-ends g c =
@@ -65,8 +65,10 @@ returns-in_err-put_left-clause-ends g c =
     c.from_residual-in_err-put_left.result read.read.failures
     (λ cannot image is v t same s.
     let file : List ℕ = drafted c.args.draft.now image in
-    cannot (subst (MayPut c.read_level.new.base.header 0) (sym c.retain_outside.ensures ∙ ap items (sym c.deref.ensures.value))
-    (may_put_same (fields_of file) c.read_level.new.base.header 0 (left_by (range_of c.args.range) es) (ap (λ (k : Header). k.block_size)
+    cannot (subst (MayPut c.read_level.new.base.header 0)
+    (sym c.retain_outside.ensures ∙ ap items (sym c.deref.ensures.value))
+    (may_put_same (fields_of file) c.read_level.new.base.header 0 (left_by (range_of c.args.range) es)
+    (ap (λ (k : Header). k.block_size)
     (same_header h.told h.moment h.failures h.left_since c.args.base.now c.read_level.new.base read)
     ∙ sym c.requires.block_size
     ∙ sym (ap (λ (k : Header). k.block_size) (drafted_fields image c.args.draft.now (c.hold_draft.ensures image is))))
