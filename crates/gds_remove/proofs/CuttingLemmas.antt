@@ -1,10 +1,9 @@
 -- A range that is cut out below one entry of an index block after another, by calls on a base and a draft.
 use Rattle.std.proofs.Common.{◌≡◌, ◌+◌, ◌-◌, ◌*◌, ◌<◌, ◌≤◌, ℕ, suc, Bool, true, false, List, [], ◌∷◌}
-use Rattle.std.proofs.Common.{◌++◌, length, Option, None, Some, Result, Ok, Err, inl, inr, refl, sym, ap}
+use Rattle.std.proofs.Common.{◌++◌, length, Option, None, Some, Result, Ok, Err, refl, sym, ap}
 use Rattle.std.proofs.Common.{◌∙◌, subst, arith}
 use Rattle.std.specs.Prelude.{if◌then◌else◌}
 use Rattle.std.specs.Option.{ForSome}
-use Rattle.std.proofs.lemmas.Bool.{cases_lt}
 use Rattle.std.proofs.lemmas.List.{length-append}
 use Rattle.std.proofs.Math.Nat.{add-mul, mul-add}
 use Rattle.host_model.specs.Failures.{Failures, NeverFell}
@@ -25,13 +24,12 @@ use Rattle.gds_tree.specs.Below.{HasEntries}
 use Rattle.gds_units.specs.Reading.{OnlyRead}
 use Rattle.gds_units.specs.State.{UnitsState, image_of}
 use Rattle.gds_split.specs.Pieces.{starred}
-use Rattle.gds_splice.specs.Writing.{PutsEntries}
 use Rattle.gds_splice.proofs.DraftingLemmas.{ends_exit, same_header, same_image}
 use Rattle.gds_splice.proofs.EntriesPutLemmas.{drafted_fields}
 use Rattle.gds_splice.proofs.ImageLemmas as lawful
 use Rattle.gds_remove.specs.Block.{AreEntriesAt, FreesBelow, HasNoEntries, WritesOne}
 use Rattle.gds_remove.specs.Child.{CannotPrune, CannotPutKept, PrunesChild, PutsKept}
-use Rattle.gds_remove.specs.Cut.{CutsAt, HasCut, Leaves, LeavesNone, LeavesTree, NoneStands, StandsBelow}
+use Rattle.gds_remove.specs.Cut.{CutsAt, HasCut, Leaves, NoneStands, StandsBelow}
 use Rattle.gds_remove.specs.Killed.{OnlyWrites}
 use Rattle.gds_remove.specs.Range.{IsLeft, Left, Range, StaysLeft, end_count, ends_in, ends_left, left_by, most_written}
 use Rattle.gds_remove.proofs.EndLemmas.{at_end, may_put}

@@ -1,5 +1,5 @@
 -- The child of an index block that a search for the least key of a range finds.
-use Rattle.std.proofs.Common.{◌≡◌, ◌≢◌, ◌⊎◌, ◌<◌, ℕ, suc, Bool, true, false, List, [], ◌∷◌, ◌++◌, take, Option, None, Some}
+use Rattle.std.proofs.Common.{◌≡◌, ◌⊎◌, ◌<◌, ℕ, suc, false, List, [], ◌∷◌, take, Option, None, Some}
 use Rattle.std.proofs.Common.{inl, inr}
 use Rattle.std.proofs.Common.{refl, sym, ap, ◌∙◌, subst, append-nil}
 use Rattle.std.specs.Bool.{OnFalse}
@@ -12,13 +12,13 @@ use Rattle.gds_find.proofs.WayLemmas.{packed_at}
 use Rattle.gds_header.specs.Fields.{block_of}
 use Rattle.gds_block.specs.Fields.{u32_at}
 use Rattle.gds_pack.specs.Packable.{AreIndex}
-use Rattle.gds_pack.specs.Packed.{key_behind, packed_size}
+use Rattle.gds_pack.specs.Packed.{key_behind}
 use Rattle.gds_pack.proofs.BoundLemmas.{shared-between}
 use Rattle.gds_search.specs.PackedBlock.{IsPackedBlock}
 use Rattle.gds_search.specs.Place.{BeginsAbove, IsBelow, IsPlace, IsPlaceFor}
 use Rattle.gds_search.specs.declared.place.Place.{Place}
-use Rattle.gds_tree.proofs.TestLemmas.{below_less, most_cases, most_from}
-use Rattle.m_key.specs.Key.{AtMost, Below}
+use Rattle.gds_tree.proofs.TestLemmas.{below_less, most_from}
+use Rattle.m_key.specs.Key.{Below}
 use Rattle.m_key.specs.KeyEnd.{shared}
 use Rattle.m_key.proofs.KeyEndLemmas.{shared-nil, take-shared}
 use Rattle.gds_remove.specs.Range.{BeginsBehind, BeginsBelow, EndsBelow, Range}

@@ -1,24 +1,18 @@
 -- A range that lies below one child of an index block.
-use Rattle.std.proofs.Common.{◌≡◌, ◌≢◌, ℕ, suc, Bool, true, false, List, [], ◌∷◌, ◌++◌, length, Option, None, Some, inl}
-use Rattle.std.proofs.Common.{refl, sym, ap, ◌∙◌, subst, arith, append_assoc, append-nil}
+use Rattle.std.proofs.Common.{◌≡◌, ℕ, suc, Bool, true, false, List, [], ◌∷◌, ◌++◌, length, None, Some}
+use Rattle.std.proofs.Common.{refl, sym, ap, subst, arith, append_assoc, append-nil}
 use Rattle.std.specs.Prelude.{if◌then◌else◌}
 use Rattle.std.specs.List.{AllByRecursion}
 use Rattle.std.proofs.lemmas.Bool.{false≢true}
-use Rattle.gds_block.specs.Fields.{u32_at}
 use Rattle.gds_block.specs.Item.{Item}
-use Rattle.gds_header.specs.Fields.{fields_of}
 use Rattle.gds_law.specs.Visit.{Visit}
-use Rattle.gds_pack.specs.Packable.{ArePackable}
-use Rattle.gds_pack.specs.Packed.{packed_size}
 use Rattle.gds_sound.specs.Sound.{Tree}
-use Rattle.gds_split.specs.Pieces.{starred}
-use Rattle.gds_splice.specs.Divided.{MayPut}
 use Rattle.gds_splice.proofs.ImageLemmas.{image_of}
 use Rattle.gds_tree.specs.Below.{HasEntries}
 use Rattle.gds_remove.specs.Block.{CannotFree, FreesOne}
-use Rattle.gds_remove.specs.Child.{PrunesChild, PutsKept}
+use Rattle.gds_remove.specs.Child.{PrunesChild}
 use Rattle.gds_remove.specs.Cut.{CutsAt, HasCut, LeavesTree, NoneStands, StandsBelow}
-use Rattle.gds_remove.specs.Range.{BeginsBehind, IsLeft, Left, Range, TakesPart}
+use Rattle.gds_remove.specs.Range.{BeginsBehind, Left, Range}
 use Rattle.gds_remove.specs.Sole.{CannotTakeOut, HasSole, IsSole, TakesOut}
 use Rattle.gds_remove.specs.declared.sole.SoleChild.{SoleChild}
 use Rattle.gds_remove.proofs.EndLemmas.{all_kept, at_end, block_stays, may_put}

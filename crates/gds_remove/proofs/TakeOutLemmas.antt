@@ -1,5 +1,5 @@
 -- An entry of an index block that is taken out.
-use Rattle.std.proofs.Common.{◌≡◌, ◌≢◌, ◌+◌, ◌<◌, ℕ, Bool, true, false, List, [], ◌∷◌, ◌++◌, length, take, drop, refl, sym, ap, ◌∙◌}
+use Rattle.std.proofs.Common.{◌≡◌, ◌≢◌, ◌+◌, ◌<◌, ℕ, Bool, false, List, [], ◌∷◌, ◌++◌, length, take, drop, sym, ap, ◌∙◌}
 use Rattle.std.proofs.Common.{subst, arith, append_assoc}
 use Rattle.std.specs.Prelude.{IsTrue}
 use Rattle.std.proofs.lemmas.Bool.{false≢true}
@@ -9,7 +9,6 @@ use Rattle.std.proofs.lemmas.List.{length-append, length-map, map-append}
 use Rattle.gds_block.specs.Item.{Item}
 use Rattle.gds_header.specs.Fields.{fields_of}
 use Rattle.gds_header.specs.declared.header.Header.{Header}
-use Rattle.gds_law.specs.Visit.{Visit}
 use Rattle.gds_pack.specs.Entry.{item, items}
 use Rattle.gds_pack.specs.Packable.{ArePackable}
 use Rattle.gds_pack.specs.Packed.{packed_size}

@@ -19,8 +19,8 @@ use host_model::Host;
 use m_key::key_from;
 use std::alloc::{AllocError, Global};
 
-/// Takes the entry out of an index block whose record begins at an offset, and answers whether it was the only one. Then
-/// nothing is written.
+/// Takes the entry out of an index block whose record begins at an offset, and answers whether it was the only one.
+/// Then nothing is written.
 pub(crate) fn take_out<H: Host>(
     alloc: Global,
     base: &mut Base<H>,

@@ -1,9 +1,8 @@
-use Rattle.std.proofs.Common.{◌≡◌, ◌+◌, ℕ, Bool, List, sym, ap, ◌∙◌, arith, length}
+use Rattle.std.proofs.Common.{Bool, List, sym, ap, ◌∙◌, arith}
 use Rattle.std.specs.Global.{Vec}
 use Rattle.std.proofs.lemmas.List.{length-map}
 use Rattle.std.proofs.lemmas.Result.{IfOk-weaker}
 use Rattle.host_model.proofs.FailureLemmas.{NeverFell-refl}
-use Rattle.gds_block.specs.Item.{Item}
 use Rattle.gds_draft.specs.Drafted.{drafted}
 use Rattle.gds_header.specs.declared.header.Header.{Header}
 use Rattle.gds_pack.specs.Entry.{item, items}
