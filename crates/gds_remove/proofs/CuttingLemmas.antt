@@ -1,10 +1,9 @@
 -- A range that is cut out below one entry of an index block after another, by calls on a base and a draft.
 use Rattle.std.proofs.Common.{◌≡◌, ◌+◌, ◌-◌, ◌*◌, ◌<◌, ◌≤◌, ℕ, suc, Bool, true, false, List, [], ◌∷◌}
-use Rattle.std.proofs.Common.{◌++◌, length, Option, None, Some, Result, Ok, Err, inl, inr, refl, sym, ap}
+use Rattle.std.proofs.Common.{◌++◌, length, Option, None, Some, Result, Ok, Err, refl, sym, ap}
 use Rattle.std.proofs.Common.{◌∙◌, subst, arith}
 use Rattle.std.specs.Prelude.{if◌then◌else◌}
 use Rattle.std.specs.Option.{ForSome}
-use Rattle.std.proofs.lemmas.Bool.{cases_lt}
 use Rattle.std.proofs.lemmas.List.{length-append}
 use Rattle.std.proofs.Math.Nat.{add-mul, mul-add}
 use Rattle.host_model.specs.Failures.{Failures, NeverFell}
@@ -25,16 +24,15 @@ use Rattle.gds_tree.specs.Below.{HasEntries}
 use Rattle.gds_units.specs.Reading.{OnlyRead}
 use Rattle.gds_units.specs.State.{UnitsState, image_of}
 use Rattle.gds_split.specs.Pieces.{starred}
-use Rattle.gds_splice.specs.Writing.{PutsEntries}
 use Rattle.gds_splice.proofs.DraftingLemmas.{ends_exit, same_header, same_image}
 use Rattle.gds_splice.proofs.EntriesPutLemmas.{drafted_fields}
 use Rattle.gds_splice.proofs.ImageLemmas as lawful
 use Rattle.gds_remove.specs.Block.{AreEntriesAt, FreesBelow, HasNoEntries, WritesOne}
 use Rattle.gds_remove.specs.Child.{CannotPrune, CannotPutKept, PrunesChild, PutsKept}
-use Rattle.gds_remove.specs.Cut.{CutsAt, Leaves, LeavesNone, LeavesTree, NoneStands, StandsBelow}
+use Rattle.gds_remove.specs.Cut.{CutsAt, HasCut, Leaves, NoneStands, StandsBelow}
 use Rattle.gds_remove.specs.Killed.{OnlyWrites}
-use Rattle.gds_remove.specs.Range.{IsLeft, Left, Range, StaysLeft, end_count, ends_left, left_by, most_written}
-use Rattle.gds_remove.proofs.EndLemmas.{all_kept, may_put, none_kept, some_kept}
+use Rattle.gds_remove.specs.Range.{IsLeft, Left, Range, StaysLeft, end_count, ends_in, ends_left, left_by, most_written}
+use Rattle.gds_remove.proofs.EndLemmas.{at_end, may_put}
 use Rattle.gds_remove.proofs.SoFarLemmas.{CutSoFar, begun, entries_at}
 use Rattle.gds_remove.proofs.NextLemmas.{next_cut, none_to_prune}
 use Rattle.gds_remove.proofs.WritesLemmas.{OnlyWrites-one, OnlyWrites-read, OnlyWrites-then, OnlyWrites-weaker}
@@ -56,11 +54,14 @@ all_cut before after n level range all frees v t same s = record {
   leaves = subst (λ k. Leaves before after t.blocks (k ∷ [])) (sym same) (frees v t same s);
 }
 
-some_end : (low high : Option (List ℕ)) → (record { low = low; high = high } ≡ all_keys → ⊥)
-    → 1 ≤ end_count low + end_count high
-some_end None None other = absurd (other refl)
-some_end None (Some high) other = omega arith
-some_end (Some low) high other = omega arith
+pub some_end : (range : Range) → (range ≡ all_keys → ⊥) → 1 ≤ ends_in range
+some_end range other = by range.low range.high other
+  where
+    by : (low high : Option (List ℕ)) → (record { low = low; high = high } ≡ all_keys → ⊥)
+        → 1 ≤ end_count low + end_count high
+    by None None other = absurd (other refl)
+    by None (Some high) other = omega arith
+    by (Some low) high other = omega arith
 
 fewer_is : (p q : ℕ) → p ≤ q → q ≡ q - p + p
 fewer_is p q le = omega arith
@@ -68,8 +69,8 @@ fewer_is p q le = omega arith
 more_one : (n : ℕ) → n + 1 ≡ suc n
 more_one n = omega arith
 
-pub level_is : (level : ℕ) → (level ≡ 0 → ⊥) → level ≡ suc (level - 1)
-level_is level some = omega (arith, some)
+pub level_up : (level : ℕ) → 0 < level → level ≡ suc (level - 1)
+level_up level some = omega (arith, some)
 
 -- How a call ended behind others, as they ended together.
 pub ends_on : (T : Type 0) (a b c : Failures) (P Q : Type 0) (result : Result T BaseError) → NeverFell a b → (P → Q)
@@ -78,9 +79,6 @@ ends_on T a b c P Q (Ok value) never so ends = tt
 ends_on T a b c P Q (Err e) never so ends = ends_exit T T a b c P Q e (Err e) never so refl ends
 
 -- ---- one file
-
-abbrev pub ends_in : Range → ℕ
-ends_in range = end_count range.low + end_count range.high
 
 pub no_entries : (file : List ℕ) (n level below : ℕ) → level ≡ suc below → HasNoEntries n level file
     → NoneStands n level file
@@ -134,23 +132,15 @@ module _ (n level below : ℕ) (is : level ≡ suc below) (range : Range) where
       let s' = subst (λ k. StandsBelow before v k t) is s in
       none_to_prune before mid v below t range done kept e rest left s' (c v t same s') cannot
 
-  at_end : (before now after : List ℕ) (done kept : List Item) (left : Left) (count : ℕ) (empty : Bool)
+  at_last : (before now after : List ℕ) (done kept : List Item) (left : Left) (count : ℕ) (empty : Bool)
       → length done ≡ count → To done kept [] left before now → PutsKept n level count kept empty now after
       → CutsAt n level range empty before after
-  at_end before now after done kept left count true long c put v t same s =
+  at_last before now after done kept left count empty long c put v t same s =
       let s' = subst (λ k. StandsBelow before v k t) is s in
-      subst (λ file. LeavesNone before file t range (v.block ∷ [])) (sym put.1)
-      (none_kept before now v below t range done kept left s' (c v t same s') put.0)
-  at_end before now after done kept left count false long c put v t same s =
-      let s' = subst (λ k. StandsBelow before v k t) is s in
-      subst (λ k. LeavesTree before after v k t range) (sym is)
-      (elim (cases_lt (length kept) count) [
-        | inl less ↦ some_kept before now v below t range done kept left s' (c v t same s') put.0 after
-            (subst (λ k. PutsEntries now after v.block k (starred kept)) is
-            (subst (λ k. PutsEntries now after k level (starred kept)) (sym same) (put.1 less)))
-        | inr more ↦ subst (λ file. LeavesTree before file v (suc below) t range) (sym (put.2 more))
-            (all_kept before now v below t range done kept left s' (c v t same s') put.0 (omega (arith, long, more)))
-      ])
+      subst (λ k. HasCut before after v k t range empty) (sym is)
+      (at_end before now after v below t range done kept left count empty s' (c v t same s') long
+      (subst (λ k. PutsKept v.block k count kept empty now after) is
+      (subst (λ k. PutsKept k level count kept empty now after) (sym same) put)))
 
   cannot_end : (before now : List ℕ) (h : Header) (done kept : List Item) (left : Left) (count : ℕ)
       → (fields_of before).block_size ≡ h.block_size → To done kept [] left before now
@@ -236,7 +226,7 @@ module _ (n level below : ℕ) (is : level ≡ suc below) (range : Range) where
         → On a b x y count kept [] left → Drafts b y z (PutsKept n level count kept empty)
         → Drafts a x z (CutsAt n level range empty)
     ends_cut a b x y z count kept left empty c put image is_told =
-        at_end (drafted x image) (drafted y image) (drafted z image) c.done kept left count empty
+        at_last (drafted x image) (drafted y image) (drafted z image) c.done kept left count empty
         (omega (arith, c.long)) (c.cut image is_told)
         (put image (same_image told moment counts left_since a b c.only.read ∙ is_told))
 
@@ -266,11 +256,11 @@ module _ (n level below : ℕ) (is : level ≡ suc below) (range : Range) where
         (omega (arith, c.most, in_all)) c.only
 
     pub cut_writes_more : (a b : UnitsState H) (x y z : DraftState) (count : ℕ) (kept rest : List Item) (left : Left)
-        → (range ≡ all_keys → ⊥) → On a b x y count kept rest left → WritesOne y z
+        → 1 ≤ ends_in range → On a b x y count kept rest left → WritesOne y z
         → OnlyWrites told moment counts left_since a b x z (most_written range level)
-    cut_writes_more a b x y z count kept rest left other c one =
+    cut_writes_more a b x y z count kept rest left some c one =
         OnlyWrites-weaker told moment counts left_since a b x z (c.written + 1) (most_written range level)
-        (omega (arith, c.most, in_all, some_end range.low range.high other))
+        (omega (arith, c.most, in_all, some))
         (OnlyWrites-then told moment counts left_since a b b x y z c.written 1 c.only
         (OnlyWrites-one told moment counts left_since b y z one))
 

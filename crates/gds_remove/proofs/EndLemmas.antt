@@ -1,6 +1,6 @@
 -- An index block once a range was cut out of the trees below all its entries.
 use Rattle.std.proofs.Common.{◌≡◌, ◌≢◌, ◌+◌, ◌<◌, ◌≤◌, ℕ, suc, false, List, [], ◌∷◌, ◌++◌, length, Some}
-use Rattle.std.proofs.Common.{inl, inr, refl, sym, ap, ◌∙◌, subst, arith, append-nil}
+use Rattle.std.proofs.Common.{Bool, true, inl, inr, refl, sym, ap, ◌∙◌, subst, arith, append-nil}
 use Rattle.std.specs.Prelude.{nat_eq, IsTrue}
 use Rattle.std.specs.List.{AllByRecursion}
 use Rattle.std.proofs.lemmas.Bool.{cases_lt, eq-eqb, or_left}
@@ -22,7 +22,7 @@ use Rattle.gds_tree.specs.RightBlock.{IsDueLevel}
 use Rattle.gds_tree.proofs.BelowLemmas.{all_right}
 use Rattle.gds_tree.proofs.FaultlessLemmas.{written_entries}
 use Rattle.gds_tree.proofs.KeepLemmas.{entries_kept, index_reach, lawful_kept, pointers, same_limits}
-use Rattle.gds_tree.proofs.PartLemmas.{numbered}
+use Rattle.gds_tree.proofs.PartLemmas.{lawful_index, numbered}
 use Rattle.gds_tree.proofs.ReplaceLemmas.{forest_grown}
 use Rattle.gds_tree.proofs.TreeByLemmas.{index_by}
 use Rattle.gds_ancestors.proofs.StarLemmas.{star_trees}
@@ -33,7 +33,8 @@ use Rattle.gds_splice.proofs.ImageLemmas.{image_of, sizes_of}
 use Rattle.gds_splice.proofs.DividedLemmas.{had_some}
 use Rattle.gds_splice.specs.Divided.{MayPut}
 use Rattle.gds_splice.specs.Writing.{PutsEntries}
-use Rattle.gds_remove.specs.Cut.{Leaves, LeavesNone, LeavesTree, StandsBelow}
+use Rattle.gds_remove.specs.Child.{PutsKept}
+use Rattle.gds_remove.specs.Cut.{HasCut, Leaves, LeavesNone, LeavesTree, StandsBelow}
 use Rattle.gds_remove.specs.Range.{Left, Range, left_by}
 use Rattle.gds_remove.proofs.KeptLemmas.{AreKept, IsEnded, ended, ends_with, nothing, starred_behind}
 use Rattle.gds_remove.proofs.LeavesLemmas.{leaves_compose, leaves_in_any_order, leaves_with_more, leaves_written}
@@ -109,6 +110,30 @@ module _ (before now : List ℕ) (v : Visit) (level : ℕ) (t : Tree) (range : R
       (has_same (c.tree.blocks ++ v.block ∷ []) (v.block ∷ c.tree.blocks)
       (λ n. omega (arith, count_append n c.tree.blocks (v.block ∷ []))))
 
+  -- ---- the block
+
+  i : IsImage before
+  i = image_of before s.maps
+
+  j : IsImage now
+  j = image_of now c.leaves.lawful
+
+  within_now : v.block < (fields_of now).total
+  within_now = omega (arith, s.number.within, c.leaves.reshapes.limits.total)
+
+  -- The block itself has its entries still, until it is written.
+  pub block_stays : HasEntries now v (suc level) es
+  block_stays =
+      let had : HasEntries before v (suc level) es = subst (HasEntries before v (suc level)) (append-nil es) c.has in
+      let own : IsTrue (has_block (v.block ∷ []) v.block) =
+      or_left (nat_eq v.block v.block) false (eq-eqb v.block v.block refl) in
+      entries_kept before now i j (sizes_of before now c.leaves.reshapes.limits) v (suc level) es had within_now
+      (c.leaves.reshapes.stays v.block (proper v.block (own_in v.block own)) (s.busy v.block (own_in v.block own))
+      (own_apart v.block own))
+      (index_reach (fields_of now).total v.role level es
+      (pointers_within (fields_of before) (fields_of now).total v level es c.leaves.reshapes.limits.total
+      (lawful_index before v (suc level) es had)))
+
   -- ---- nothing is left
 
   pub none_kept : kept ≡ [] → LeavesNone before now t range (v.block ∷ [])
@@ -150,33 +175,14 @@ module _ (before now : List ℕ) (v : Visit) (level : ℕ) (t : Tree) (range : R
       fits = omega (arith, lawful_star.1, c.has.right.head.fits, ap packed_size (append-nil es));
     }
 
-    i : IsImage before
-    i = image_of before s.maps
-
-    j : IsImage now
-    j = image_of now c.leaves.lawful
-
-    within_now : v.block < (fields_of now).total
-    within_now = omega (arith, s.number.within, c.leaves.reshapes.limits.total)
-
     -- All are kept, and the block stays.
     pub all_kept : length es ≤ length kept → LeavesTree before now v (suc level) t range
     all_kept long =
         let same : kept ≡ es = c.all (omega (arith, c.few, long)) in
-        let had : HasEntries before v (suc level) kept =
-        subst (HasEntries before v (suc level)) (append-nil es ∙ sym same) c.has in
-        let own : IsTrue (has_block (v.block ∷ []) v.block) =
-        or_left (nat_eq v.block v.block) false (eq-eqb v.block v.block refl) in
-        let has : HasEntries now v (suc level) kept =
-        entries_kept before now i j (sizes_of before now c.leaves.reshapes.limits) v (suc level) kept had within_now
-        (c.leaves.reshapes.stays v.block (proper v.block (own_in v.block own)) (s.busy v.block (own_in v.block own))
-        (own_apart v.block own))
-        (index_reach (fields_of now).total v.role level kept
-        (pointers_within (fields_of before) (fields_of now).total v level kept c.leaves.reshapes.limits.total
-        c.each_kept)) in
         record {
           tree = index_tree v c.tree;
-          sound = index_by now v level kept c.tree j has c.tree_is;
+          sound = index_by now v level kept c.tree j (subst (HasEntries now v (suc level)) (sym same) block_stays)
+              c.tree_is;
           distinct = distinct_from_counts (v.block ∷ c.tree.blocks) once;
           items_are = items_left;
           some = some_left;
@@ -240,3 +246,18 @@ module _ (before now : List ℕ) (v : Visit) (level : ℕ) (t : Tree) (range : R
         leaves = leaves_compose before now after t.blocks (v.block ∷ c.tree.blocks) (v.block ∷ c.tree.blocks) top
             written;
       }
+
+-- What becomes of the tree where the block gets the entries that are kept, or stays.
+pub at_end : (before now after : List ℕ) (v : Visit) (level : ℕ) (t : Tree) (range : Range) (done kept : List Item)
+    (left : Left) (count : ℕ) (empty : Bool) → StandsBelow before v (suc level) t
+    → CutSoFar before now v level t range done kept [] left → length done ≡ count
+    → PutsKept v.block (suc level) count kept empty now after → HasCut before after v (suc level) t range empty
+at_end before now after v level t range done kept left count true s c long put =
+    subst (λ file. LeavesNone before file t range (v.block ∷ [])) (sym put.1)
+    (none_kept before now v level t range done kept left s c put.0)
+at_end before now after v level t range done kept left count false s c long put =
+    elim (cases_lt (length kept) count) [
+      | inl less ↦ some_kept before now v level t range done kept left s c put.0 after (put.1 less)
+      | inr more ↦ subst (λ file. LeavesTree before file v (suc level) t range) (sym (put.2 more))
+          (all_kept before now v level t range done kept left s c put.0 (omega (arith, long, more)))
+    ]

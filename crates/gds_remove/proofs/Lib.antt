@@ -16,3 +16,6 @@ pub mod KillingLemmas
 pub mod AloneLemmas
 pub mod EditedLemmas
 pub mod CuttingLemmas
+pub mod SoleLemmas
+pub mod SoleFoundLemmas
+pub mod TakeOutLemmas

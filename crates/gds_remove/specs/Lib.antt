@@ -5,3 +5,4 @@ pub mod Block
 pub mod Killed
 pub mod Emptied
 pub mod Alone
+pub mod Sole

@@ -43,8 +43,11 @@ abbrev pub end_count : Option (List ℕ) → ℕ
 end_count None = 0
 end_count (Some key) = 1
 
+abbrev pub ends_in : Range → ℕ
+ends_in range = end_count range.low + end_count range.high
+
 abbrev pub most_written : Range → ℕ → ℕ
-most_written range level = (end_count range.low + end_count range.high) * (level + 1)
+most_written range level = ends_in range * (level + 1)
 
 -- ---- on a way along the children of an index block
 

@@ -1,25 +1,26 @@
-ghost use Rattle.std.specs.Prelude.{◌≡◌, ◌+◌, ◌-◌, ◌*◌, ◌<◌, ◌≤◌, ◌++◌, ◌∷◌, [], IfOk, List, OnOk, Option, ℕ};
+ghost use Rattle.std.specs.Prelude.{◌+◌, ◌-◌, ◌*◌, ◌<◌, ◌≤◌, IfOk, List, OnOk, Option, ℕ};
 ghost use Rattle.gds_base.specs.Drafting.{Drafts, IsDraftFor, WithDraft};
 ghost use Rattle.gds_base.specs.Ending.{EndsReading};
-ghost use Rattle.gds_pack.specs.Entry.{item, items};
-ghost use Rattle.gds_split.specs.Pieces.{starred};
-ghost use Rattle.gds_remove.specs.Block.{WritesOne};
-ghost use Rattle.gds_remove.specs.Child.{CannotPrune, CannotPutKept, PrunesChild, PutsKept};
+ghost use Rattle.gds_pack.specs.Entry.{item};
+ghost use Rattle.gds_remove.specs.Child.{CannotPrune, PrunesChild};
 ghost use Rattle.gds_remove.specs.Cut.{CutsAt, NoneStands};
 ghost use Rattle.gds_remove.specs.Killed.{OnlyWrites};
-ghost use Rattle.gds_remove.specs.Range.{IsLeft, Range, StaysLeft, ends_left, left_of, most_written, range_of};
+ghost use Rattle.gds_remove.specs.Range.{IsLeft, Range, StaysLeft, ends_in, ends_left, left_of, most_written};
+ghost use Rattle.gds_remove.specs.Range.{range_of};
+ghost use Rattle.gds_remove.specs.Sole.{IsSole};
 
+use crate::children::{keep, put_children, take_out};
 use crate::freeing::{free_below, free_tested};
 use crate::leaf::cut_leaf;
-use crate::node::{changed, put_left, read_level};
+use crate::node::{changed, read_level};
 use crate::range::{KeyRange, RangeLeft};
+use crate::sole::{SoleChild, sole_child};
 use gds_base::{Base, BaseError};
 use gds_block::pointer_of;
 use gds_draft::Draft;
 use gds_pack::Entry;
 use host_model::Host;
-use m_key::key_from;
-use std::alloc::{AllocError, Global};
+use std::alloc::Global;
 
 /// Cuts a range of keys out of the tree below a block of this level, and answers whether no item is left. Then all
 /// other blocks of the tree are free, and the block itself is still busy, whatever its bytes.
@@ -47,6 +48,61 @@ pub(crate) fn cut<H: Host>(
     if level == 0 {
         return cut_leaf(alloc, base, draft, n, range);
     }
+    let Some(sole) = sole_child(base, draft, n, level, range)? else {
+        return cut_children(alloc, base, draft, n, level, range);
+    };
+    cut_sole(alloc, base, draft, n, level, range, sole)
+}
+
+// The same where the whole range lies below one child: the block is unpacked only if nothing is left below that.
+#[cycle(cut)]
+fn cut_sole<H: Host>(
+    alloc: Global,
+    base: &mut Base<H>,
+    draft: &mut Draft,
+    n: u32,
+    level: u8,
+    range: KeyRange<'_>,
+    sole: SoleChild,
+) -> Result<bool, BaseError>
+    requires draft { IsDraftFor base.old.header draft.old }
+    requires index { 0 < level }
+    requires some { 1 ≤ ends_in (range_of range) }
+    ensures cut { IfOk result (λ empty. Drafts base.old draft.old draft.new (λ before after.
+        IsSole n level (range_of range.entry) sole before → CutsAt n level (range_of range.entry) empty before after)) }
+    ensures drafts { OnlyWrites H.told H.moment H.failures H.left_since base.old base.new draft.old draft.new
+        (most_written (range_of range.entry) level) }
+    ensures ends { EndsReading (H.failures base.old.host) (H.failures base.new.host)
+        (WithDraft base.old draft.old (λ file. IsSole n level (range_of range.entry) sole file
+        → NoneStands n level file)) result }
+{
+    if !cut(alloc, base, draft, sole.block, level - 1, range)? {
+        return Ok(false);
+    }
+    free_tested(alloc, base, draft, sole.block)?;
+    take_out(alloc, base, draft, n, level, sole.offset)
+}
+
+// The same by all children, one after another.
+#[cycle(cut)]
+fn cut_children<H: Host>(
+    alloc: Global,
+    base: &mut Base<H>,
+    draft: &mut Draft,
+    n: u32,
+    level: u8,
+    range: KeyRange<'_>,
+) -> Result<bool, BaseError>
+    requires draft { IsDraftFor base.old.header draft.old }
+    requires index { 0 < level }
+    requires some { 1 ≤ ends_in (range_of range) }
+    ensures cut { IfOk result (λ empty. Drafts base.old draft.old draft.new
+        (CutsAt n level (range_of range.entry) empty)) }
+    ensures drafts { OnlyWrites H.told H.moment H.failures H.left_since base.old base.new draft.old draft.new
+        (most_written (range_of range.entry) level) }
+    ensures ends { EndsReading (H.failures base.old.host) (H.failures base.new.host)
+        (WithDraft base.old draft.old (NoneStands n level)) result }
+{
     base.hold_draft(draft);
     let entries = read_level(alloc, base, draft, n, level)?;
     let count = entries.len();
@@ -96,55 +152,4 @@ fn prune<'a, H: Host>(
     }
     free_tested(alloc, base, draft, child)?;
     Ok(true)
-}
-
-// Puts an entry behind those that are kept.
-fn keep(kept: &mut Vec<Entry>, entry: Entry) -> Result<(), AllocError>
-    ensures { OnOk result (items kept.new.items ≡ items kept.old.items ++ item entry ∷ []) }
-{
-    Ok(kept.push(entry)?)
-}
-
-// Writes an index block with the entries that are left of so many, if any went and any is left; answers whether none
-// is.
-fn put_children<H: Host>(
-    alloc: Global,
-    base: &Base<H>,
-    draft: &mut Draft,
-    n: u32,
-    level: u8,
-    count: usize,
-    mut kept: Vec<Entry>,
-) -> Result<bool, BaseError>
-    requires draft { IsDraftFor base.now.header draft.old }
-    requires there { n < draft.old.header.total }
-    ensures put { IfOk result (λ empty. Drafts base.now draft.old draft.new
-        (PutsKept n level count (items kept.items) empty)) }
-    ensures one { WritesOne draft.old draft.new }
-    ensures ends { EndsReading (H.failures base.now.host) (H.failures base.now.host)
-        (CannotPutKept base.now.header level count (items kept.items)) result }
-{
-    if kept.is_empty() {
-        return Ok(true);
-    }
-    if kept.len() >= count {
-        return Ok(false);
-    }
-    star_last(&mut kept)?;
-    put_left(alloc, base, draft, n, level, &kept)?;
-    Ok(false)
-}
-
-// Makes the last of entries the star.
-fn star_last(entries: &mut Vec<Entry>) -> Result<(), AllocError>
-    ensures { OnOk result (items entries.new.items ≡ starred (items entries.old.items)) }
-{
-    let Some(last) = entries.pop() else {
-        return Ok(());
-    };
-    entries.push(Entry {
-        key: key_from(&[]),
-        rest: last.rest,
-    })?;
-    Ok(())
 }

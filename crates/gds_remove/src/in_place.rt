@@ -143,8 +143,8 @@ fn place_alone(bytes: &[u8], low: &[u8], high: &[u8]) -> Option<Place>
     Some(place)
 }
 
-// Whether these bytes are a key.
-fn is_whole(key: &[u8]) -> bool
+/// Whether these bytes are a key.
+pub(crate) fn is_whole(key: &[u8]) -> bool
     ensures { IsTrue result ↔ IsKey key.now }
 {
     if key.len() > 255 {

@@ -89,8 +89,8 @@ impl<'a> RangeLeft<'a> {
         !key.is_empty() && key.cmp(low).is_le()
     }
 
-    // Whether it ends in the child's bounds, or that isn't known.
-    fn ends_below(&self, key: &[u8]) -> bool
+    /// Whether it ends in the bounds of a child whose keys are below this one, or that isn't known.
+    pub(crate) fn ends_below(&self, key: &[u8]) -> bool
         ensures ends { IsTrue result → EndsBelow (bytes_of self.now.range.high) key.now }
         ensures goes_on { result ≡ false → GoesOn (bytes_of self.now.range.high) key.now }
     {

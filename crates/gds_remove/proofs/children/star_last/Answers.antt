@@ -1,5 +1,5 @@
 use Rattle.gds_splice.proofs.ChangingLemmas.{star_put}
-use Rattle.gds_remove.proofs.cutting.star_last.Goals as goal
+use Rattle.gds_remove.proofs.children.star_last.Goals as goal
 
 pub returns : goal.returns
 returns c =
