@@ -26,7 +26,7 @@ use Rattle.gds_run.specs.declared.error.RunError.{RunError}
 use Rattle.gds_run.specs.declared.error.RunError.TheVariants as error
 use Rattle.gds_run.specs.Ending.{EndsRun, EndsScript, HasCause, HasLinesCause, IsRefusal}
 use Rattle.gds_run.specs.Progress.{Ends, Origin, Progress}
-use Rattle.gds_run.specs.Run.{Breaks, IsRun, LeavesPrefixes, LeavesSinceBarrier, Opens}
+use Rattle.gds_run.specs.Run.{Breaks, FindsNoMap, IsRun, LeavesAlone, LeavesPrefixes, LeavesSinceBarrier, Opens}
 use Rattle.gds_run.proofs.OpeningLemmas.{begins, broken_run, each_same, ends_only, no_opening, only_opened, origin}
 use Rattle.gds_run.proofs.OpeningLemmas.{same_is_prefix, since_barrier, told_from, whole_run}
 
@@ -147,6 +147,10 @@ module _ {H : Type 0} (told : H → Option Contents) (moment : H → ℕ) (left_
         is = at.1;
       }
 
+  -- Files in which an opening finds no map aren't opened.
+  pub unopened_call : ForSome (told host) (λ c. FindsNoMap c → LeavesAlone moment left_since told host new c)
+  unopened_call c tells none = let o = opened c tells in absurd (none o.file o.map o.opens)
+
   pub whole_call : ((other : H) (c : Contents) → told other ≡ Some c → left_since other (moment other) c)
       → OnOk r (ForSome left (λ text. TellsOn (told host) (told new) (IsRun text)))
   whole_call now_left =
@@ -177,21 +181,32 @@ module _ {H : Type 0} (told : H → Option Contents) (moment : H → ℕ) (left_
 
 -- An opening that fails
 module _ {H : Type 0} (told : H → Option Contents) (moment : H → ℕ) (left_since : H → ℕ → Contents → Type 0) where
-  pub crash_refused : ((other : H) (t u : ℕ) (c : Contents) → t ≤ u → left_since other u c → left_since other t c)
-      → (host : H) (returned : Returned H) (left : Option (List ℕ))
-      → ForSome (told host) (KeepsOpening moment left_since host (Err returned))
-      → ForSome left (λ text. ForSome (told host)
-      (λ c. LeavesPrefixes moment left_since text c host returned.host))
-  crash_refused longer host returned left keeps text left_is c tells file m opens =
-      ⊎_elim
-      (λ (none : returned ≡ record { host = host; error = Memory }).
-      subst (λ (now : H). LeavesSinceBarrier moment left_since host now (IsAfterPrefix (script_of text) m c.said))
-      (sym (ap (λ (back : Returned H). back.host) none))
-      (no_opening told moment left_since longer host (IsAfterPrefix (script_of text) m c.said)))
-      (λ (found : KeepsFound moment left_since host returned.host c).
-      only_opened told moment left_since longer host returned.host c (IsAfterPrefix (script_of text) m c.said)
-      (λ d again. same_is_prefix (script_of text) file m c d opens again) found)
-      (keeps c tells)
+  module _ (longer : (other : H) (t u : ℕ) (c : Contents) → t ≤ u → left_since other u c → left_since other t c)
+      (host : H) (returned : Returned H)
+      (keeps : ForSome (told host) (KeepsOpening moment left_since host (Err returned))) where
+    refused_leaves : (c : Contents) → told host ≡ Some c → (P : Contents → Type 0)
+        → ((d : Contents) → FindsSame c d → P d) → LeavesSinceBarrier moment left_since host returned.host P
+    refused_leaves c tells P so =
+        ⊎_elim
+        (λ (none : returned ≡ record { host = host; error = Memory }).
+        subst (λ (now : H). LeavesSinceBarrier moment left_since host now P)
+        (sym (ap (λ (back : Returned H). back.host) none)) (no_opening told moment left_since longer host P))
+        (λ (found : KeepsFound moment left_since host returned.host c).
+        only_opened told moment left_since longer host returned.host c P so found)
+        (keeps c tells)
+
+    pub crash_refused : (left : Option (List ℕ)) → ForSome left (λ text. ForSome (told host)
+        (λ c. LeavesPrefixes moment left_since text c host returned.host))
+    crash_refused left text left_is c tells file m opens =
+        refused_leaves c tells (IsAfterPrefix (script_of text) m c.said)
+        (λ d again. same_is_prefix (script_of text) file m c d opens again)
+
+    pub unopened_refused : TellsOn (told host) (told returned.host) FindsSame
+        → ForSome (told host) (λ c. FindsNoMap c → LeavesAlone moment left_since told host returned.host c)
+    unopened_refused same c tells none = record {
+      now = subst (λ (o : Option Contents). TellsOn o (told returned.host) FindsSame) tells same;
+      crash = refused_leaves c tells (FindsSame c) (λ d again. again);
+    }
 
   pub ends_call : (counts : H → Failures) (host mid new : H) (left rest : Option (List ℕ)) (failed fails : ℕ)
       (r : Result (Unit {0}) RunError) → NeverFell (counts host) (counts mid) → (told host ≡ None → told mid ≡ None)

@@ -1,5 +1,5 @@
 -- What a run says, what it leaves of the files, and what a crash leaves on the way.
-use Rattle.std.specs.Prelude.{◌≡◌, ◌⊎◌, ℕ, ◌<◌, ◌≤◌, List, [], ◌++◌, take, Option, Some}
+use Rattle.std.specs.Prelude.{◌≡◌, ◌⊎◌, ℕ, ◌<◌, ◌≤◌, IsSomeAnd, List, [], ◌++◌, take, Option, Some}
 use Rattle.std.specs.Option.{ForSome}
 use Rattle.host_model.specs.Failures.{counted}
 use Rattle.host_model.specs.Files.{Contents}
@@ -8,6 +8,7 @@ use Rattle.host_model.specs.Told.{TellsOn}
 use Rattle.m_key.specs.Globals.{Globals}
 use Rattle.gds_base.specs.Finds.{Finds}
 use Rattle.gds_images.specs.Recovered.{recovered}
+use Rattle.gds_recovery.specs.Found.{FindsSame}
 use Rattle.gds_sound.specs.Stands.{StandsFor}
 use Rattle.gds_script.specs.declared.answer.Answer.{Answer}
 use Rattle.gds_script.specs.Answer.{answer_lines}
@@ -18,6 +19,10 @@ use Rattle.gds_script.specs.Script.{Runs, State, script_of, start_of}
 pub record Opens (c : Contents) (image : List ℕ) (m : Globals) : Type 0 where
   pub recovers : recovered c.db c.images ≡ Some image
   pub stands : StandsFor image m
+
+-- It finds none that stands for a map.
+abbrev pub FindsNoMap : Contents → Type 0
+FindsNoMap c = (image : List ℕ) (m : Globals) → Opens c image m → ⊥
 
 -- All lines of the input were answered, and what was said are the answers. The database file is the last image, and the
 -- next opening finds the map for which that stands.
@@ -65,3 +70,8 @@ module _ {H : Type 0} (moment : H → ℕ) (left_since : H → ℕ → Contents 
   LeavesPrefixes input before old new =
       (image : List ℕ) (m : Globals) → Opens before image m
       → LeavesSinceBarrier old new (IsAfterPrefix (script_of input) m before.said)
+
+  -- Of the files the next opening finds the same, at the end and at each moment, and nothing was said.
+  pub record LeavesAlone (told : H → Option Contents) (old new : H) (before : Contents) : Type 0 where
+    pub now : IsSomeAnd (told new) (FindsSame before)
+    pub crash : LeavesSinceBarrier old new (FindsSame before)

@@ -1,7 +1,8 @@
 use Rattle.std.proofs.Common.{◌≡◌, subst, sym}
 use Rattle.gds_recovery.proofs.WorkLemmas.{was_untold}
 use Rattle.gds_recovery.specs.Found.{FindsSame}
-use Rattle.gds_run.proofs.CallLemmas.{broken_call, crash_call, crash_refused, ends_call, never_refused, whole_call}
+use Rattle.gds_run.proofs.CallLemmas.{broken_call, crash_call, crash_refused, ends_call, never_refused}
+use Rattle.gds_run.proofs.CallLemmas.{unopened_call, unopened_refused, whole_call}
 use Rattle.gds_run.proofs.call.run.Goals as goal
 
 pub returns-in-Ok-clause-whole : goal.returns-in-Ok-clause-whole
@@ -34,6 +35,14 @@ returns-in-Ok-clause-crash g c =
     crash_call h.told h.moment h.left_since c.args.host c.in-Ok.base r.host (g.I.Source.left c.args.input) r.result
     e.image e.there e.one_map e.stable e.same c.run_open.ensures.run g.met.H.Host.longer e.any_moment
 
+pub returns-in-Ok-clause-unopened : goal.returns-in-Ok-clause-unopened
+returns-in-Ok-clause-unopened g c =
+    let h = g.H.Host in
+    let e = c.in-Ok.ensures in
+    let r = c.run_open.result in
+    unopened_call h.told h.moment h.left_since c.args.host c.in-Ok.base r.host (g.I.Source.left c.args.input) r.result
+    e.image e.there e.one_map e.stable e.same c.run_open.ensures.run
+
 pub returns-in-Ok-clause-ends : goal.returns-in-Ok-clause-ends
 returns-in-Ok-clause-ends g c =
     let h = g.H.Host in
@@ -48,6 +57,13 @@ returns-in-Ok-clause-ends g c =
 pub returns-in-Err-clause-crash : goal.returns-in-Err-clause-crash
 returns-in-Err-clause-crash g c =
     let h = g.H.Host in
-    crash_refused h.told h.moment h.left_since g.met.H.Host.longer c.args.host c.in-Err.returned
+    let e = c.in-Err.ensures in
+    crash_refused h.told h.moment h.left_since g.met.H.Host.longer c.args.host c.in-Err.returned e.any_moment
     (g.I.Source.left c.args.input)
-    c.in-Err.ensures.any_moment
+
+pub returns-in-Err-clause-unopened : goal.returns-in-Err-clause-unopened
+returns-in-Err-clause-unopened g c =
+    let h = g.H.Host in
+    let e = c.in-Err.ensures in
+    unopened_refused h.told h.moment h.left_since g.met.H.Host.longer c.args.host c.in-Err.returned e.any_moment
+    e.same
