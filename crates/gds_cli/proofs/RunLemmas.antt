@@ -2,6 +2,7 @@
 use Rattle.std.proofs.Common.{◌≡◌, ℕ, ◌++◌, List, [], length, take, Option, None, Some, Result, Ok, Err, ⊎_elim, inl}
 use Rattle.std.proofs.Common.{inr, refl, sym, ap, subst, ◌∙◌, true}
 use Rattle.std.specs.Option.{ForSome}
+use Rattle.std.specs.Prelude.{IsSomeAnd}
 use Rattle.host_model.specs.Failures.{Failures}
 use Rattle.host_model.specs.Files.{Contents, saying}
 use Rattle.host_model.specs.Told.{TellsOn}
@@ -14,7 +15,7 @@ use Rattle.gds_law.proofs.KeptLemmas.{one_fault_list}
 use Rattle.gds_recovery.specs.Found.{FindsSame}
 use Rattle.gds_opening.specs.Opening.{FindsFaults}
 use Rattle.gds_script.specs.Answer.{answer_lines}
-use Rattle.gds_run.specs.Run.{Breaks, IsRun, LeavesPrefixes, Opens}
+use Rattle.gds_run.specs.Run.{Breaks, FindsNoMap, IsRun, LeavesAlone, LeavesPrefixes, Opens}
 use Rattle.gds_run.specs.Ending as run
 use Rattle.gds_run.specs.declared.error.RunError.{RunError}
 use Rattle.gds_run.specs.declared.error.RunError.TheVariants as error
@@ -71,19 +72,39 @@ ends_run input told now ran =
     })
     ran
 
+-- A run broke off, and files that can't be opened were left alone.
+abbrev pub BreaksOrLeaves : List ℕ → Contents → Contents → Type 0
+BreaksOrLeaves input before after = Breaks input before after × (FindsNoMap before → FindsSame before after)
+
+-- the same of the host
+pub breaks_or_leaves : {H : Type 0} (told : H → Option Contents) (moment : H → ℕ)
+    (left_since : H → ℕ → Contents → Type 0) (input : List ℕ) (old new : H)
+    → TellsOn (told old) (told new) (Breaks input)
+    → ForSome (told old) (λ c. FindsNoMap c → LeavesAlone moment left_since told old new c)
+    → TellsOn (told old) (told new) (BreaksOrLeaves input)
+breaks_or_leaves told moment left_since input old new breaks alone =
+    goes_on (told old) (told new) (BreaksOrLeaves input) (λ before tells.
+    let now = TellsOn-some (told old) (told new) (Breaks input) before tells breaks in (
+      now.0,
+      now.1,
+      (now.2, λ none. subst (λ o. IsSomeAnd o (FindsSame before)) now.1 (alone before tells none).now),
+    ))
+
 -- the run broke off, and nothing more was said
 broken_ends : (input : List ℕ) (status : Status) (before after : Contents) → is_break status ≡ true
-    → Breaks input before after → RunEnds input status before after
+    → BreaksOrLeaves input before after → RunEnds input status before after
 broken_ends input status before after is breaks =
-    breaks_as (RunDue input before) (RunBreaksOff input before after) status before after is (inl breaks)
+    breaks_as (RunDue input before) (RunBreaksOff input before after) status before after is
+    (inl breaks.0, λ none. (breaks.1 none).found)
 
 silent_ends : (input : List ℕ) (told mid now : Option Contents) (status wanted : Status) → status ≡ wanted
-    → is_break wanted ≡ true → TellsOn told mid (Breaks input) → TellsOn mid now (λ before after. after ≡ before)
-    → TellsOn told now (RunEnds input status)
+    → is_break wanted ≡ true → TellsOn told mid (BreaksOrLeaves input)
+    → TellsOn mid now (λ before after. after ≡ before) → TellsOn told now (RunEnds input status)
 silent_ends input told mid now status wanted is broke breaks says =
-    TellsOn-then told mid now (Breaks input) (λ before after. after ≡ before) (RunEnds input status)
+    TellsOn-then told mid now (BreaksOrLeaves input) (λ before after. after ≡ before) (RunEnds input status)
     (λ x y z was same.
-    broken_ends input status x z (ap is_break is ∙ broke) (subst (λ (c : Contents). Breaks input x c) (sym same) was))
+    broken_ends input status x z (ap is_break is ∙ broke)
+    (subst (λ (c : Contents). BreaksOrLeaves input x c) (sym same) was))
     breaks says
 
 -- it was said why the files can't be opened
@@ -92,8 +113,10 @@ refused_ends : (input : List ℕ) (reply : Reply) (status : Status) (before mid 
     → RunEnds input status before after
 refused_ends input reply status before mid after due same answered =
     match_both (is_break status) _ _ _ _
-    (λ (front : SaysFrontOf reply.text mid after).
-    inr (reply, due, front.0, more_said before mid after (take front.0 reply.text) same front.1))
+    (λ (front : SaysFrontOf reply.text mid after). (
+      inr (reply, due, front.0, more_said before mid after (take front.0 reply.text) same front.1),
+      λ _. ap (λ (c : Contents). recovered c.db c.images) front.1 ∙ same.found,
+    ))
     (λ (whole : (status ≡ reply.status) × (after ≡ saying mid reply.text)).
     record {
       reply = reply;
@@ -125,7 +148,8 @@ module _ (told : Option Contents) (f g h : Failures) (left rest : Option (List �
   Why e = run.HasCause told f g left rest failed fails e
 
   pub ends_why : (input : List ℕ) (mid now : Option Contents) (e : RunError) (status : Status) → Why e
-      → TellsOn told mid (Breaks input) → (run.IsRefusal e → TellsOn told mid FindsSame) → GivesStatus e status g h
+      → TellsOn told mid (BreaksOrLeaves input) → (run.IsRefusal e → TellsOn told mid FindsSame)
+      → GivesStatus e status g h
       → TellsOn mid now (SaysWhy e status) → TellsOn told now (RunEnds input status)
   ends_why input mid now error.Memory status why breaks same gives says =
       silent_ends input told mid now status ended.Memory gives refl breaks says

@@ -17,7 +17,7 @@ use Rattle.gds_new.specs.NewDatabase.{new_database}
 use Rattle.gds_create.specs.Newborn.{HasBytes, IsEmpty, IsRefused, closed_images}
 use Rattle.gds_opening.specs.Opening.{FindsFaults}
 use Rattle.gds_script.specs.Answer.{answer_lines}
-use Rattle.gds_run.specs.Run.{Breaks, IsRun, LeavesPrefixes}
+use Rattle.gds_run.specs.Run.{Breaks, FindsNoMap, IsRun, LeavesPrefixes}
 use Rattle.gds_words.specs.declared.words.Command.{Command}
 use Rattle.gds_words.specs.declared.words.Command.TheVariants.{Version, Integ, Extract, Create, Run}
 use Rattle.gds_words.specs.declared.words.BadWords.{BadWords}
@@ -161,11 +161,12 @@ CreateBreaksOff h status before after =
 
 -- Where RUN breaks off, nothing was said; or it answered some first lines of the input, and some first bytes of the
 -- answers were said; or it said some first bytes of why the files can't be opened. What the files hold is among what a
--- crash leaves.
+-- crash leaves, and of files that can't be opened the next opening finds what it would have found.
 abbrev pub RunBreaksOff : List ℕ → Contents → Contents → Type 0
 RunBreaksOff input before after =
-    Breaks input before after
-    ⊎ ((reply : Reply) × RefusalDue before reply × (n : ℕ) × (after.said ≡ before.said ++ take n reply.text))
+    (Breaks input before after
+    ⊎ ((reply : Reply) × RefusalDue before reply × (n : ℕ) × (after.said ≡ before.said ++ take n reply.text)))
+    × (FindsNoMap before → recovered after.db after.images ≡ recovered before.db before.images)
 
 -- The other commands leave both files as they are.
 abbrev pub BreaksOff : Result Command BadWords → List ℕ → Status → Contents → Contents → Type 0

@@ -1,4 +1,4 @@
-use Rattle.gds_cli.proofs.RunLemmas.{ends_run, ends_why, leaves_why}
+use Rattle.gds_cli.proofs.RunLemmas.{breaks_or_leaves, ends_run, ends_why, leaves_why}
 use Rattle.gds_cli.proofs.run.run.Goals as goal
 
 pub returns-in-Ok-clause-host : goal.returns-in-Ok-clause-host
@@ -10,7 +10,9 @@ returns-in-Err-clause-host g c text given =
     let why = rw c.in-Err.is at c.run-result.ensures.ends.cause in
     let says = c.say_why-status.ensures in
     ends_why _ _ _ _ _ _ _ _ text _ _ c.in-Err.error c.say_why-status.result why
-    ((rw c.in-Err.is at c.run-result.ensures.broken) text given) (rw c.in-Err.is at c.run-result.ensures.refused)
+    (breaks_or_leaves _ _ _ text _ _ ((rw c.in-Err.is at c.run-result.ensures.broken) text given)
+    c.run-result.ensures.unopened)
+    (rw c.in-Err.is at c.run-result.ensures.refused)
     says.status says.host.told
 
 pub returns-in-Err-clause-crash : goal.returns-in-Err-clause-crash
