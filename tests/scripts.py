@@ -114,7 +114,7 @@ class Map:
         return b"NODE " + reference_text(self.nodes[at])
 
 
-NUMBERS = [Decimal(n) for n in ("0", "1", "2", "10", "-1", "-10", "-10.1", "10.1", ".5", "-.5", "100000000000000001", "1234567")]
+NUMBERS = ["0", "1", "2", "10", "-1", "-10", "-10.1", "10.1", ".5", "-.5", "100000000000000001", "1234567"]
 STRINGS = [b"a", b"ab", b"b", b"01", b"\0", b"\0\1", b"\1", b"\xff\xff", b'q"q', b"1E2", b"-0", b"x" * 20]
 NAMES = [b"A", b"AB", b"B", b"%", b"%a", b"a1", b"Z"]
 
@@ -123,7 +123,7 @@ def random_subscript(rng):
     kind = rng.random()
     if kind < 0.5:
         return Decimal(rng.randrange(400))
-    return rng.choice(NUMBERS) if kind < 0.7 else rng.choice(STRINGS)
+    return Decimal(rng.choice(NUMBERS)) if kind < 0.7 else rng.choice(STRINGS)
 
 
 def random_node(rng, wide):

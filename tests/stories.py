@@ -1,7 +1,7 @@
 """Stories: calls of the built program one after another on the same two files, some of which change them.
 
-A story is a list of steps. A step is the words of a call, its input, what it has to say and its exit status, and at need
-what the files have to be like afterwards. A scene is a function, for what no list of steps can tell: calls that run at
+A story is a list of steps. A step is the words of a call, its input, what it has to say and its exit status, and at
+need what the files have to be like afterwards. A scene is a function, for what no list of steps can tell: calls that run at
 the same time, or an input that is written while answers are read.
 """
 
@@ -285,7 +285,13 @@ STORIES = {
     ],
     "a KILL of nothing takes no transaction number": [
         Step(CREATE, said("CREATED 100"), check=put("db", 40, (2**63 - 1).to_bytes(8, "little"))),
-        run(["KILL ^A", "SET ^A(1)=1", "KILL ^B", "KILL ^A", "DATA ^A"], "OK", "OK", "OK", "TNSPENT", "DATA 10", "EPOCH 3"),
+        run(
+            ["KILL ^A", "SET ^A(1)=1", "KILL ^B", "KILL ^A", "DATA ^A"],
+            *["OK"] * 3,
+            "TNSPENT",
+            "DATA 10",
+            "EPOCH 3",
+        ),
         SOUND,
     ],
     "a file grows": [

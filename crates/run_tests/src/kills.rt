@@ -20,7 +20,8 @@ fn kills_and_questions_are_answered(rt: HostRuntime) -> Result<(), Fail> {
         ),
         (
             "nodes go one after another",
-            b"SET ^A(1)=\"x\"\nSET ^A(2)=\"y\"\nKILL ^A(1)\nORDER ^A(\"\")\nORDER ^A(2)\nQUERY ^A\nKILL ^A\nORDER ^%\n",
+            b"SET ^A(1)=\"x\"\nSET ^A(2)=\"y\"\nKILL ^A(1)\n\
+            ORDER ^A(\"\")\nORDER ^A(2)\nQUERY ^A\nKILL ^A\nORDER ^%\n",
             b"OK\nOK\nOK\nNEXT 2\nEND\nNODE ^A(2)\nOK\nEND\nEPOCH 4\n",
         ),
         (

@@ -105,7 +105,11 @@ fn transaction_numbers_are_spent(rt: HostRuntime) -> Result<(), Fail> {
             (1 << 63) - 1,
             &b"OK\nTNSPENT\nVALUE \"1\"\nOK\nTNSPENT\nEPOCH 2\n"[..],
         ),
-        ("the last", 1 << 63, b"TNSPENT\nTNSPENT\nUNDEF\nOK\nOK\nEPOCH 2\n"),
+        (
+            "the last",
+            1 << 63,
+            b"TNSPENT\nTNSPENT\nUNDEF\nOK\nOK\nEPOCH 2\n",
+        ),
     ] {
         let number: u64 = number;
         let db = changed(alloc, new.parts().0, NUMBER, &number.to_le_bytes())?;
