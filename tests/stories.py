@@ -1,8 +1,8 @@
 """Stories: calls of the built program one after another on the same two files, some of which change them.
 
 A story is a list of steps. A step is the words of a call, its input, what it has to say and its exit status, and at
-need what the files have to be like afterwards. A scene is a function, for what no list of steps can tell: calls that run at
-the same time, or an input that is written while answers are read.
+need what the files have to be like afterwards. A scene is a function, for what no list of steps can tell: calls that
+run at the same time, or an input that is written while answers are read.
 """
 
 import os

@@ -32,7 +32,8 @@ fn kills_and_questions_are_answered(rt: HostRuntime) -> Result<(), Fail> {
         (
             "subscripts in their order",
             b"SET ^A(-1.5)=1\nSET ^A(10,\"x\")=1\nSET ^A(9)=1\nSET ^A(\"01\")=1\n\
-            ORDER ^A(\"\")\nORDER ^A(-1.5)\nORDER ^A(9)\nORDER ^A(9.5)\nORDER ^A(10)\nORDER ^A(\"01\")\nORDER ^A(10,\"\")\n",
+            ORDER ^A(\"\")\nORDER ^A(-1.5)\nORDER ^A(9)\nORDER ^A(9.5)\nORDER ^A(10)\n\
+            ORDER ^A(\"01\")\nORDER ^A(10,\"\")\n",
             b"OK\nOK\nOK\nOK\nNEXT -1.5\nNEXT 9\nNEXT 10\nNEXT 10\nNEXT \"01\"\nEND\nNEXT \"x\"\nEPOCH 4\n",
         ),
         (
