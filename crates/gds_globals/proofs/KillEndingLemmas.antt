@@ -1,7 +1,7 @@
 -- How a KILL ends: with its draft, or with the commit of it.
 use Rattle.std.proofs.Common.{◌≡◌, ℕ, ◌^◌, ◌<◌, ◌≤◌, Option, None, Some, Result, Ok, Err, refl, sym, ap, subst}
 use Rattle.std.proofs.Common.{◌∙◌, arith, inl, List}
-use Rattle.std.specs.Prelude.{◌↔◌, IsErrAnd, MatchBool}
+use Rattle.std.specs.Prelude.{◌↔◌, All, IsErrAnd, MatchBool}
 use Rattle.std.specs.Option.{ForSome}
 use Rattle.std.proofs.lemmas.Bool.{eq-eqb, ne_eqb}
 use Rattle.std.proofs.lemmas.Result.{err_from_is_err_and}
@@ -10,6 +10,7 @@ use Rattle.host_model.specs.Files.{Contents}
 use Rattle.host_model.specs.Moments.{EachLeft}
 use Rattle.host_model.specs.Told.{TellsOn}
 use Rattle.gds_base.specs.Ending.{EndsCommit, EndsReading}
+use Rattle.gds_base.specs.Faultless.{IsFaultless}
 use Rattle.gds_base.specs.declared.error.BaseError.{BaseError}
 use Rattle.gds_base.specs.declared.error.BaseError.TheVariants as answer
 use Rattle.gds_draft.specs.Committed.{IsCommitted}
@@ -18,13 +19,16 @@ use Rattle.gds_draft.specs.Laws.{IsDraftOf}
 use Rattle.gds_header.specs.declared.header.Header.{Header}
 use Rattle.gds_header.specs.Fields.{fields_of}
 use Rattle.gds_sound.specs.Questions.{data_of}
+use Rattle.gds_sound.proofs.OneMapLemmas.{one_map}
+use Rattle.gds_sound.proofs.SoundLemmas.{faultless}
 use Rattle.gds_units.specs.Durable.{KeptAllOrStored}
 use Rattle.gds_units.specs.Held.{IsRecoverable}
 use Rattle.gds_units.specs.Reading.{OnlyRead}
 use Rattle.gds_units.specs.State.{UnitsState, WhereTold}
 use Rattle.gds_units.proofs.DurableLemmas.{found_before}
 use Rattle.m_key.specs.Globals.{Place}
-use Rattle.gds_globals.specs.Kill.{EndsDraftingKill, EndsKilling, IsAfterKill, IsNothingThere, Kills}
+use Rattle.m_key.specs.Node.{Node}
+use Rattle.gds_globals.specs.Kill.{EndsDraftingKill, EndsKilling, IsAfterKill, IsNothingThere, IsSomethingThere, Kills}
 use Rattle.gds_globals.specs.Killing.{IsReadyKill}
 use Rattle.gds_globals.proofs.BesideLemmas.{differs_beside, header_after_kill}
 
@@ -155,3 +159,12 @@ same_error {U} result e x exit is =
     let fails : BaseError → Result U BaseError = λ y. Err y in
     let same : fails e ≡ fails x = sym (found.1 ∙ ap Err found.2) ∙ is in
     cc
+
+-- An image stands for a map, in which something is there or not.
+pub not_nothing : (told : Option (List ℕ)) (node : Node) → ForSome told IsFaultless
+    → ForSome told (All (λ b. b < 256)) → ForSome told (IsSomethingThere node)
+    → ForSome told (λ image. IsNothingThere node image → ⊥)
+not_nothing told node sound bytes some image is none =
+    let f = sound image is in
+    let m = (one_map image (bytes image is) (faultless image f.directory f.globals f.sound)).0 in
+    some image is m.0 m.1 (none m.0 m.1)

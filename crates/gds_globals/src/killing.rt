@@ -23,8 +23,8 @@ use host_model::Host;
 use m_key::Reference;
 use std::alloc::Global;
 
-/// KILL: a node and its descendants lose their values in the image. Where none of them has one nothing is done, and no
-/// transaction number is used. Nothing is durable before an epoch.
+/// KILL: a node and its descendants lose their values in the image. Where none of them has one the base is only read,
+/// and no transaction number is used. Nothing is durable before an epoch.
 ///
 /// # Errors
 ///
@@ -39,6 +39,8 @@ pub fn kill<H: Host>(
         (IsAfterKill (place_of reference.now))) }
     ensures err { OnErr result ((image_of base.new ≡ image_of base.old) × (base.new.header ≡ base.old.header)) }
     ensures refused { OnRefusal result (OnlyRead H.told H.moment H.failures H.left_since base.old base.new) }
+    ensures nothing { OnOk result (ForSome (image_of base.old) (λ image. IsNothingThere (node_of reference.now) image
+        → OnlyRead H.told H.moment H.failures H.left_since base.old base.new)) }
     ensures spent { result ≡ Err TnSpent → ForSome (image_of base.old) (IsSomethingThere (node_of reference.now)) }
     ensures kept { OnOk result (WhereTold H.told base.old
         (λ c image. KeptAllOrStored H.moment H.left_since image c.said base.old.host base.new.host)) }

@@ -8,7 +8,7 @@ use Rattle.gds_units.specs.State.{image_of}
 use Rattle.m_key.specs.Reference.{node_of, place_of}
 use Rattle.gds_globals.proofs.CrashLemmas.{commit_kept, commit_moments, read_moments}
 use Rattle.gds_globals.proofs.DifferLemmas.{told_differs}
-use Rattle.gds_globals.proofs.KillEndingLemmas.{committed_kill, nothing_kept}
+use Rattle.gds_globals.proofs.KillEndingLemmas.{committed_kill, not_nothing, nothing_kept}
 use Rattle.gds_globals.proofs.KillEndingLemmas.{nothing_taken, same_error}
 use Rattle.gds_globals.specs.Kill.{IsAfterKill, IsNothingThere}
 use Rattle.gds_globals.specs.Killing.{IsReadyKill}
@@ -33,6 +33,9 @@ returns-in_default-clause-map g c =
     c.draft_kill.ensures.read)
     (subst (λ o. IfNone o (ForSome (image_of c.args.base.now) (IsNothingThere (node_of c.args.reference.now))))
     c.in_default.is c.in_ok-draft.ensures.nothing)
+
+pub returns-in_default-clause-nothing : goal.returns-in_default-clause-nothing
+returns-in_default-clause-nothing g c image is none = c.draft_kill.ensures.read
 
 pub returns-in_default-clause-kept : goal.returns-in_default-clause-kept
 returns-in_default-clause-kept g c =
@@ -60,6 +63,16 @@ returns-clause-map g c =
     c.in_ok-draft.ensures.ready)
     c.header-limits.ensures.fields (λ image is. c.hold_draft.ensures image (same ∙ is))))
     c.commit.ensures.image
+
+pub returns-clause-nothing : goal.returns-clause-nothing
+returns-clause-nothing g c =
+    let p = place_of c.args.reference.now in
+    let ready = subst (λ o. IfSome o (IsReadyKill (image_of c.args.base.now) c.args.base.now.header p)) c.in-Some.is
+    c.in_ok-draft.ensures.ready in
+    on_ok_weaker c.commit.result
+    (λ _ image is none.
+    absurd (not_nothing (image_of c.args.base.now) p.node c.header-limits.ensures.faultless
+    c.header-limits.ensures.bytes ready.takes image is none)) c.commit.ensures.header
 
 pub returns-clause-kept : goal.returns-clause-kept
 returns-clause-kept g c =
