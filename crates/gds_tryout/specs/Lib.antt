@@ -1,6 +1,0 @@
-pub mod File
-pub mod Global
-pub mod Entries
-pub mod Outcome
-pub mod Split
-pub mod Cut
