@@ -21,7 +21,7 @@ install: build
 	install -D -m 644 dist/gds.1 $(ROOT)/share/man/man1/gds.1
 	install -D -m 644 dist/gds.bash $(ROOT)/share/bash-completion/completions/gds
 
-# an archive for machines without the toolchain: `tar -C /usr/local --strip-components=1 -xzf noebulis.tar.gz` installs it
+# an archive for machines without the toolchain; README.md says how to install it there
 dist: build
 	rm -rf out/noebulis
 	$(MAKE) install DESTDIR=out PREFIX=/noebulis
