@@ -93,7 +93,7 @@ impl<I: Source> Lines<I> {
     /// nothing.
     pub fn has_line(&self) -> bool
         // Where the source tells its bytes, the end of the next line is among those that were taken.
-        ensures { IfSome self.left (λ text. result ≡ nat_lt (line_len text) (self.taken - self.passed)) }
+        ensures { IfSome self.now.left (λ text. result ≡ nat_lt (line_len text) (self.now.taken - self.now.passed)) }
     {
         line_end(self.ahead.held(), 0).is_some()
     }
