@@ -109,11 +109,11 @@ module _ (command : Result Command BadWords) (block key value alloc ext limit : 
       subst P (sym is) (subst Q same (leaves before tells))
 
 -- What a crash leaves where the words are known
-pub known_leaves : {H : Type 0} {moment : H → ℕ} {left_since : H → ℕ → Contents → Type 0} (host now : H)
+pub known_leaves : {H : Type 0} (moment : H → ℕ) (left_since : H → ℕ → Contents → Type 0) (host now : H)
     (status : Status) (command known : Result Command BadWords) (input : List ℕ) (before : Contents)
     → command ≡ known → Leaves moment left_since known input status host now before
     → Leaves moment left_since command input status host now before
-known_leaves {H} {moment} {left_since} host now status command known input before is leaves =
+known_leaves moment left_since host now status command known input before is leaves =
     let P : Result Command BadWords → Type 0 = λ k. Leaves moment left_since k input status host now before in
     subst P (sym is) leaves
 

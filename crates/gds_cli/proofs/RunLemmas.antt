@@ -168,7 +168,7 @@ module _ {H : Type 0} (moment : H → ℕ) (left_since : H → ℕ → Contents 
     pub refused : FindsNoMap before → LeavesAlone moment left_since tells (run.RunEndsEarly r) host mid before
 
 -- nothing more was said
-pub run_alone : {H : Type 0} {moment : H → ℕ} {left_since : H → ℕ → Contents → Type 0} {tells : H → Option Contents}
+run_alone : {H : Type 0} {moment : H → ℕ} {left_since : H → ℕ → Contents → Type 0} {tells : H → Option Contents}
     {input : List ℕ} {r : Result (Unit {0}) RunError} {host mid : H} (before : Contents) (status : Status)
     → (run.RunEndsEarly r → EndsEarly status) → LeavesRunAs moment left_since tells input r host mid before
     → LeavesRun moment left_since input status host mid before
@@ -178,6 +178,15 @@ run_alone before status early leaves = record {
       barrier_weaker early (λ c same. record { files = same.files; said = inl same.said })
       (leaves.refused none).crash;
 }
+
+-- a run that came to its end
+pub run_done : {H : Type 0} (moment : H → ℕ) (left_since : H → ℕ → Contents → Type 0) (tells : H → Option Contents)
+    (input : List ℕ) (r : Result (Unit {0}) RunError) (value : Unit {0}) → r ≡ Ok value → (host mid : H)
+    (before : Contents) → LeavesRunAs moment left_since tells input r host mid before
+    → LeavesRun moment left_since input ended.Done host mid before
+run_done moment left_since tells input r value is host mid before leaves =
+    run_alone before ended.Done
+    (subst (λ x. run.RunEndsEarly x → EndsEarly ended.Done) (sym is) (λ none. absurd none)) leaves
 
 said_refused : (before : Contents) (reply : Reply) → RefusalDue before reply → (mid after : Contents) (n : ℕ)
     → FindsSame before mid → after ≡ saying mid (take n reply.text) → IsLeftRefused before after
@@ -218,7 +227,7 @@ module _ (told : Option Contents) (f g h : Failures) (left rest : Option (List �
       goes_untold told now (RunEnds input status) why
 
   -- what a crash leaves of it, from what one of the run does
-  module _ {H : Type 0} {moment : H → ℕ} {left_since : H → ℕ → Contents → Type 0} {tells : H → Option Contents}
+  module _ {H : Type 0} (moment : H → ℕ) (left_since : H → ℕ → Contents → Type 0) (tells : H → Option Contents)
       (longer : (host : H) (t u : ℕ) (c : Contents) → t ≤ u → left_since host u c → left_since host t c)
       (input : List ℕ) (host mid now : H) where
     -- what is said after a run that ended so
@@ -247,7 +256,7 @@ module _ (told : Option Contents) (f g h : Failures) (left rest : Option (List �
           (past_now past says.0 says.1) says.2.1) by));
     }
 
-    pub leaves_why : (e : RunError) (status : Status) → Why e → GivesStatus e status g h → (IsSilent e → now ≡ mid)
+    leaves_why : (e : RunError) (status : Status) → Why e → GivesStatus e status g h → (IsSilent e → now ≡ mid)
         → LeavesSaying moment left_since e mid now → RunLeaves e → LeavesWhy e status
     leaves_why error.Memory status why gives quiet says leaves =
         quiet_leaves error.Memory status (λ _. subst EndsEarly (sym gives) tt) (quiet tt) leaves
@@ -267,7 +276,16 @@ module _ (told : Option Contents) (f g h : Failures) (left rest : Option (List �
     leaves_why (error.Unsound faults) status why gives quiet says leaves =
         refused_leaves (error.Unsound faults) status (unsound faults) (λ c is. inr (faults, why.0, why.1 c is, refl))
         (λ none. none) says leaves
-    leaves_why (error.Changed unit) status why gives quiet says leaves before is = let none = why in absurd (cc)
+    leaves_why (error.Changed unit) status why gives quiet says leaves =
+        λ before is. let none = why in absurd (cc)
+
+    -- the same of what the run answered
+    pub leaves_error : (r : Result (Unit {0}) RunError) (e : RunError) → r ≡ Err e → (status : Status) → Why e
+        → GivesStatus e status g h → (IsSilent e → now ≡ mid) → LeavesSaying moment left_since e mid now
+        → ForSome told (λ before. LeavesRunAs moment left_since tells input r host mid before) → LeavesWhy e status
+    leaves_error r e is status why gives quiet says leaves =
+        leaves_why e status why gives quiet says
+        (subst (λ x. ForSome told (λ before. LeavesRunAs moment left_since tells input x host mid before)) is leaves)
 
 -- ---- the words are RUN
 

@@ -23,7 +23,7 @@ returns-in-Ok-Version-clause-host g c text given =
 
 pub returns-in-Ok-Version-clause-crash : goal.returns-in-Ok-Version-clause-crash
 returns-in-Ok-Version-clause-crash g c text given x tells =
-    known_leaves _ _ _ c.args.command (Ok Version) text x (cc) c.say-status.ensures.any_moment
+    known_leaves _ _ _ _ _ c.args.command (Ok Version) text x (cc) c.say-status.ensures.any_moment
 
 pub returns-in-Ok-Extract-clause-host : goal.returns-in-Ok-Extract-clause-host
 returns-in-Ok-Extract-clause-host g c text given =
@@ -63,5 +63,5 @@ returns-in-Err-clause-host g c text given =
 pub returns-in-Err-clause-crash : goal.returns-in-Err-clause-crash
 returns-in-Err-clause-crash g c text given x tells =
     let place = c.in-Err.field-0.place in
-    known_leaves _ _ _ c.args.command (Err (record { place = place })) text x (cc)
+    known_leaves _ _ _ _ _ c.args.command (Err (record { place = place })) text x (cc)
     c.say_number-status.ensures.any_moment

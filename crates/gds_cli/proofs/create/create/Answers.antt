@@ -38,8 +38,8 @@ returns-in-Err-NotEmpty-clause-host g c =
       failures = NeverFell-trans _ _ _ c.create_files.ensures.failures says.ensures.host.failures;
     }
 
-pub returns-in-Err-WriteFault-clause-host : goal.returns-in-Err-WriteFault-clause-host
-returns-in-Err-WriteFault-clause-host g c = record {
+pub returns-clause-host : goal.returns-clause-host
+returns-clause-host g c = record {
   told = ends_torn c.args.header.now _ _
       (rw c.in-Err-WriteFault.field-0-is at c.in-Err-WriteFault.ensures.cause).1 c.create_files.ensures.told;
   failures = c.create_files.ensures.failures;
@@ -105,8 +105,8 @@ returns-in-Err-ReadFault-clause-crash g c x tells =
     (some_created header.total) _ _ (c.create_files.ensures.any_moment x tells each))
     (λ some. kept_by (c.in-Err-ReadFault.ensures.unwritten (λ e. cc)).crash)
 
-pub returns-in-Err-WriteFault-clause-crash : goal.returns-in-Err-WriteFault-clause-crash
-returns-in-Err-WriteFault-clause-crash g c x tells =
+pub returns-clause-crash : goal.returns-clause-crash
+returns-clause-crash g c x tells =
     let header = c.args.header.now in
     let empty = (rw c.in-Err-WriteFault.field-0-is at c.in-Err-WriteFault.ensures.cause).1 x tells in
     not_made header c.requires (created header.total).text x c.args.host.now c.create_files.new.host header.total _
