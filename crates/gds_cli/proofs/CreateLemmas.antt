@@ -1,5 +1,6 @@
 -- How CREATE ends, and what a crash leaves of it.
-use Rattle.std.proofs.Common.{◌≡◌, ◌⊎◌, ◌≤◌, ℕ, List, [], ◌∷◌, codes, ◌++◌, take, Option, Some, ⊎_elim, inl, inr, refl, sym, ap}
+use Rattle.std.proofs.Common.{◌≡◌, ◌⊎◌, ◌≤◌, ℕ, List, [], ◌∷◌, codes, ◌++◌, take, Option, Some, ⊎_elim}
+use Rattle.std.proofs.Common.{inl, inr, refl, sym, ap}
 use Rattle.std.proofs.Common.{◌∙◌, ◌<◌, None, append-nil, arith, length, length-append, subst, true}
 use Rattle.std.proofs.lemmas.List.{take_all}
 use Rattle.std.specs.Fmt.{decimal}
@@ -163,11 +164,14 @@ pub ends_torn : (h : Header) (told now : Option Contents) → ForSome told IsEmp
     → TellsOn told now (λ before after. after.said ≡ before.said) → TellsOn told now (CreateEnds h ended.WriteFault)
 ends_torn h told now empty said =
     goes_on told now (CreateEnds h ended.WriteFault) (λ before tells.
-    let says = TellsOn-some told now (λ before after. after.said ≡ before.said) before tells said in
-    (says.0, says.1, broken_ends h ended.WriteFault before says.0 refl says.2 (record {
-      bytes = λ some. absurd (not_both before (empty before tells) some);
-      written = λ ok. absurd (ok refl);
-    })))
+    let says = TellsOn-some told now (λ before after. after.said ≡ before.said) before tells said in (
+      says.0,
+      says.1,
+      broken_ends h ended.WriteFault before says.0 refl says.2 (record {
+        bytes = λ some. absurd (not_both before (empty before tells) some);
+        written = λ ok. absurd (ok refl);
+      }),
+    ))
 
 -- ---- what a crash leaves
 
@@ -223,7 +227,7 @@ module _ (h : Header) (limits : IsWithinLimits h) (text : List ℕ) (before : Co
         said = (
           step.0,
           ap (λ (x : Contents). x.said) step.1 ∙ ap (λ (x : Contents). x.said ++ take step.0 text) says.1
-          ∙ ap (λ (said : List ℕ). said ++ take step.0 text) made.said,
+              ∙ ap (λ (said : List ℕ). said ++ take step.0 text) made.said,
         );
         durable = λ _. empty;
       }

@@ -16,7 +16,8 @@ use Rattle.gds_words.specs.declared.words.BadWords.{BadWords}
 use Rattle.gds_words.specs.Words.{MakesHeader}
 use Rattle.gds_cli.specs.declared.status.Status.{Status}
 use Rattle.gds_cli.specs.Status.{is_break}
-use Rattle.gds_cli.specs.Answer.{Ends, EndsAs, ExtractDue, Leaves, LeavesCreated, Replies, Reply, SaysFront, header_with}
+use Rattle.gds_cli.specs.Answer.{Ends, EndsAs, ExtractDue, Leaves, LeavesCreated, Replies, Reply, SaysFront}
+use Rattle.gds_cli.specs.Answer.{header_with}
 use Rattle.gds_cli.specs.Create.{CreateEnds}
 use Rattle.gds_cli.specs.Saying.{OnlySays}
 use Rattle.gds_cli.proofs.DueLemmas.{match_both}

@@ -1,5 +1,6 @@
 -- How RUN ends, and what a crash leaves of it.
-use Rattle.std.proofs.Common.{◌≡◌, ◌≤◌, ℕ, ◌++◌, List, [], length, take, Option, None, Some, Result, Ok, Err, ⊎_elim, inl}
+use Rattle.std.proofs.Common.{◌≡◌, ◌≤◌, ℕ, ◌++◌, List, [], length, take, Option, None, Some, Result, Ok, Err}
+use Rattle.std.proofs.Common.{⊎_elim, inl}
 use Rattle.std.proofs.Common.{inr, refl, sym, ap, subst, ◌∙◌, true}
 use Rattle.std.specs.Option.{ForSome}
 use Rattle.std.specs.Prelude.{IsSomeAnd}
@@ -163,9 +164,9 @@ refused_told input reply status told mid now due same says =
 module _ {H : Type 0} (moment : H → ℕ) (left_since : H → ℕ → Contents → Type 0) (tells : H → Option Contents) where
   -- what a run that ended so says of crashes
   pub record LeavesRunAs (input : List ℕ) (r : Result (Unit {0}) RunError) (host mid : H) (before : Contents) : Type 0
-      where
-    pub opened : LeavesPrefixes moment left_since (run.RunEndsEarly r) input before host mid
-    pub refused : FindsNoMap before → LeavesAlone moment left_since tells (run.RunEndsEarly r) host mid before
+    where
+      pub opened : LeavesPrefixes moment left_since (run.RunEndsEarly r) input before host mid
+      pub refused : FindsNoMap before → LeavesAlone moment left_since tells (run.RunEndsEarly r) host mid before
 
 -- nothing more was said
 run_alone : {H : Type 0} {moment : H → ℕ} {left_since : H → ℕ → Contents → Type 0} {tells : H → Option Contents}
@@ -271,8 +272,8 @@ module _ (told : Option Contents) (f g h : Failures) (left rest : Option (List �
     leaves_why error.InputTooLong status why gives quiet says leaves =
         quiet_leaves error.InputTooLong status (λ none. absurd none) (quiet tt) leaves
     leaves_why (error.BadImages at) status why gives quiet says leaves =
-        refused_leaves (error.BadImages at) status (bad_images at) (λ c is. inl (at, why c is, refl)) (λ none. none) says
-        leaves
+        refused_leaves (error.BadImages at) status (bad_images at) (λ c is. inl (at, why c is, refl)) (λ none. none)
+        says leaves
     leaves_why (error.Unsound faults) status why gives quiet says leaves =
         refused_leaves (error.Unsound faults) status (unsound faults) (λ c is. inr (faults, why.0, why.1 c is, refl))
         (λ none. none) says leaves

@@ -148,8 +148,8 @@ pub record SaysFront (due : Reply → Contents → Type 0) (before after : Conte
   pub says : after.said ≡ before.said ++ text
   pub front : (reply : Reply) (later : Contents) → due reply later → (n : ℕ) × (text ≡ take n reply.text)
 
--- Where CREATE breaks off, files of which one has bytes are as they were; and so are two empty files, or they are the new
--- database, unless a write failed.
+-- Where CREATE breaks off, files of which one has bytes are as they were; and so are two empty files, or they are the
+-- new database, unless a write failed.
 pub record AllOrNothing (h : Header) (status : Status) (before after : Contents) : Type 0 where
   pub bytes : HasBytes before → SameFiles before after
   pub written : status ≢ ended.WriteFault → SameFiles before after ⊎ BecomesNew h before after
@@ -201,8 +201,8 @@ pub record FindsEmpty (c : Contents) : Type 0 where
   pub recovers : recovered c.db c.images ≡ Some image
   pub stands : StandsFor image empty
 
--- An opening refuses the files, or finds no node in them; and some of the text was said. Where all of it was, no node is
--- found.
+-- An opening refuses the files, or finds no node in them; and some of the text was said. Where all of it was, no node
+-- is found.
 pub record IsRefusedOrEmpty (text : List ℕ) (before c : Contents) : Type 0 where
   pub finds : IsRefused c ⊎ FindsEmpty c
   pub said : (n : ℕ) × (c.said ≡ before.said ++ take n text)

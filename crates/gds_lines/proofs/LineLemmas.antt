@@ -271,4 +271,6 @@ ends_held held (Some rest) taken None some within ends is =
     is ∙ sym (le-ltb (line_len (held ++ rest)) (taken - (taken - length held)) (omega (arith, none, within)))
 ends_held held (Some rest) taken (Some end) some within ends is =
     let same = line_len-append_found held rest (omega (arith, ends.0, ends.1)) in
-    is ∙ sym (lt-ltb (line_len (held ++ rest)) (taken - (taken - length held)) (omega (arith, same, ends.0, ends.1, within)))
+    is
+    ∙ sym (lt-ltb (line_len (held ++ rest)) (taken - (taken - length held))
+    (omega (arith, same, ends.0, ends.1, within)))

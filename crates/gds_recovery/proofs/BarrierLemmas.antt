@@ -32,7 +32,8 @@ module _ {H : Type 0} {moment : H → ℕ} {left_since : H → ℕ → Contents 
       later = omega (arith, past.later, only.later);
       made = omega (arith, past.made, only.later);
       since = λ t from c left. ⊎_elim
-          (λ early. ⊎_elim (λ was. so c (past.since t from c was)) (λ q. q) (only.before t c (omega (arith, early)) left))
+          (λ early. ⊎_elim (λ was. so c (past.since t from c was)) (λ q. q)
+          (only.before t c (omega (arith, early)) left))
           (λ late. only.each c (longer new (moment mid) t c late left))
           (cases_lt t (moment mid));
       before = λ t c le left. ⊎_elim

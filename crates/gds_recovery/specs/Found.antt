@@ -16,8 +16,8 @@ pub record SameFiles (before after : Contents) : Type 0 where
   pub db : after.db ≡ before.db
   pub images : after.images ≡ before.images
 
--- The next opening finds of the second two files what it finds of the first, byte for byte. Where it finds nothing, both
--- are the same.
+-- The next opening finds of the second two files what it finds of the first, byte for byte. Where it finds nothing,
+-- both are the same.
 pub record IsLeftAlone (c d : Contents) : Type 0 where
   pub found : recovered d.db d.images ≡ recovered c.db c.images
   pub kept : recovered c.db c.images ≡ None → SameFiles c d

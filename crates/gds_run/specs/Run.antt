@@ -55,15 +55,15 @@ abbrev pub Breaks : List ℕ → Contents → Contents → Type 0
 Breaks input before now = (now.said ≡ before.said) ⊎ IsBrokenRun input before now
 
 module _ {H : Type 0} (moment : H → ℕ) (left_since : H → ℕ → Contents → Type 0) where
-  -- Where an opening found a map before, each crash since both files are stable leaves it after a prefix of the answered
-  -- changes; or the run ended before, for this reason.
+  -- Where an opening found a map before, each crash since both files are stable leaves it after a prefix of the
+  -- answered changes; or the run ended before, for this reason.
   abbrev pub LeavesPrefixes : Type 0 → List ℕ → Contents → H → H → Type 0
   LeavesPrefixes early input before old new =
       (image : List ℕ) (m : Globals) → Opens before image m
       → LeavesSinceBarrier moment left_since early old new (IsAfterPrefix (script_of input) m before.said)
 
-  -- Of the files the next opening finds the same, at the end and at each moment, those of which it finds nothing stay as
-  -- they are, and nothing was said.
+  -- Of the files the next opening finds the same, at the end and at each moment, those of which it finds nothing stay
+  -- as they are, and nothing was said.
   pub record LeavesAlone (told : H → Option Contents) (early : Type 0) (old new : H) (before : Contents) : Type 0 where
     pub now : IsSomeAnd (told new) (FindsSame before)
     pub crash : LeavesSinceBarrier moment left_since early old new (FindsSame before)

@@ -65,5 +65,5 @@ pub returns-in-Err-clause-unopened : goal.returns-in-Err-clause-unopened
 returns-in-Err-clause-unopened g c =
     let h = g.H.Host in
     let e = c.in-Err.ensures in
-    unopened_refused h.told h.moment h.left_since c.args.host c.in-Err.returned c.into.result c.into.ensures e.any_moment
-    e.same
+    unopened_refused h.told h.moment h.left_since c.args.host c.in-Err.returned c.into.result c.into.ensures
+    e.any_moment e.same
