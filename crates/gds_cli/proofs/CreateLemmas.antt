@@ -1,27 +1,33 @@
 -- How CREATE ends, and what a crash leaves of it.
-use Rattle.std.proofs.Common.{◌≡◌, ◌⊎◌, ◌≤◌, ℕ, List, [], ◌++◌, take, Option, Some, ⊎_elim, inl, inr, refl, sym, ap}
-use Rattle.std.proofs.Common.{◌∙◌, None, append-nil, subst, true}
+use Rattle.std.proofs.Common.{◌≡◌, ◌⊎◌, ◌≤◌, ℕ, List, [], ◌∷◌, codes, ◌++◌, take, Option, Some, ⊎_elim}
+use Rattle.std.proofs.Common.{inl, inr, refl, sym, ap}
+use Rattle.std.proofs.Common.{◌∙◌, ◌<◌, None, append-nil, arith, length, length-append, subst, true}
+use Rattle.std.proofs.lemmas.List.{take_all}
+use Rattle.std.specs.Fmt.{decimal}
 use Rattle.std.specs.Option.{ForSome}
 use Rattle.host_model.specs.Disk.{SaysSome, during}
 use Rattle.host_model.specs.Files.{Contents, saying}
-use Rattle.host_model.specs.Moments.{EachLeft, HasCome, LeavesBy, LeavesOnly}
+use Rattle.host_model.specs.Moments.{EachLeft, HasCome, LeavesBy, LeavesOnly, LeavesTheSame}
 use Rattle.host_model.specs.Told.{TellsOn}
 use Rattle.host_model.proofs.ChainLemmas.{come_by, come_weaker}
 use Rattle.host_model.proofs.FrameLemmas.{TellsOn-same, TellsOn-some, TellsOn-then, TellsOn-weaker}
-use Rattle.host_model.proofs.MomentLemmas.{LeavesTheSame-refl}
+use Rattle.host_model.proofs.FileLemmas.{SaysSome-refl}
+use Rattle.host_model.proofs.MomentLemmas.{LeavesTheSame-refl, by_same}
 use Rattle.gds_header.specs.Kinds.{IsWithinLimits}
 use Rattle.gds_header.specs.declared.header.Header.{Header}
 use Rattle.gds_images.specs.Recovered.{recovered}
+use Rattle.gds_images.proofs.RestLemmas.{rest_found}
 use Rattle.gds_new.specs.NewDatabase.{new_database}
+use Rattle.gds_new.proofs.ReadLemmas.{nothing_ends, whole_read}
 use Rattle.gds_new.proofs.SoundLemmas.{stands_read}
-use Rattle.gds_recovery.specs.Found.{EndsReading, IsUnwritten}
+use Rattle.gds_recovery.specs.Found.{IsUnwritten, SameFiles}
 use Rattle.gds_create.proofs.MakingLemmas.{unwritten_come}
 use Rattle.gds_create.specs.Newborn.{HasBytes, IsEmpty, IsMade, IsNewborn, IsRefused}
 use Rattle.gds_cli.specs.declared.status.Status.{Status}
 use Rattle.gds_cli.specs.declared.status.Status.TheVariants as ended
 use Rattle.gds_cli.specs.Status.{is_break}
 use Rattle.gds_cli.specs.Answer.{AllOrNothing, CreateBreaksOff, BecomesNew, CreateDue, FindsEmpty, IsRefusedOrEmpty}
-use Rattle.gds_cli.specs.Answer.{Reply, SameFiles, created, not_empty}
+use Rattle.gds_cli.specs.Answer.{LeavesCreated, Reply, created, not_empty}
 use Rattle.gds_cli.specs.Create.{CreateEnds}
 use Rattle.gds_cli.specs.Saying.{Answers, SaysFrontOf}
 use Rattle.gds_cli.proofs.DueLemmas.{goes_on, match_both, not_both}
@@ -60,6 +66,11 @@ one_refused h before reply later some due =
     (λ (kept : HasBytes before × SameFiles before later × (reply ≡ not_empty)). kept.2)
     due
 
+-- where both files are as they were
+same_or_new : (h : Header) (status : Status) (before after : Contents) → SameFiles before after
+    → AllOrNothing h status before after
+same_or_new h status before after same = record { bytes = λ some. same; written = λ ok. inl same }
+
 made_ends : (h : Header) (status : Status) (before mid after : Contents) → IsMade h before mid
     → Answers (created h.total) status mid after → CreateEnds h status before after
 made_ends h status before mid after made answered =
@@ -73,7 +84,10 @@ made_ends h status before mid after made answered =
           ap (λ (r : Reply). take front.0 r.text) (sym (one_created h before reply later made.empty due)),
         );
       },
-      λ ok. inr (becomes h before mid after (take front.0 (created h.total).text) made front.1),
+      record {
+        bytes = λ some. absurd (not_both before made.empty some);
+        written = λ ok. inr (becomes h before mid after (take front.0 (created h.total).text) made front.1);
+      },
     ))
     (λ (whole : (status ≡ ended.Done) × (after ≡ saying mid (created h.total).text)).
     record {
@@ -107,7 +121,7 @@ kept_ends h status before after some answered =
           ap (λ (r : Reply). take front.0 r.text) (sym (one_refused h before reply later some due)),
         );
       },
-      λ ok. inl (record {
+      same_or_new h status before after (record {
         db = ap (λ (c : Contents). c.db) front.1;
         images = ap (λ (c : Contents). c.images) front.1;
       }),
@@ -144,15 +158,32 @@ pub ends_unwritten : (h : Header) (told now : Option Contents) (status : Status)
     → TellsOn told now (CreateEnds h status)
 ends_unwritten h told now status is same =
     TellsOn-same told now (CreateEnds h status)
-    (λ c. broken_ends h status c c is refl (λ ok. inl (record { db = refl; images = refl }))) same
+    (λ c. broken_ends h status c c is refl (same_or_new h status c c (record { db = refl; images = refl }))) same
 
-pub ends_torn : (h : Header) (told now : Option Contents) → TellsOn told now (λ before after. after.said ≡ before.said)
-    → TellsOn told now (CreateEnds h ended.WriteFault)
-ends_torn h told now said =
-    TellsOn-weaker told now (λ before after. after.said ≡ before.said) (CreateEnds h ended.WriteFault)
-    (λ before after same. broken_ends h ended.WriteFault before after refl same (λ ok. absurd (ok refl))) said
+pub ends_torn : (h : Header) (told now : Option Contents) → ForSome told IsEmpty
+    → TellsOn told now (λ before after. after.said ≡ before.said) → TellsOn told now (CreateEnds h ended.WriteFault)
+ends_torn h told now empty said =
+    goes_on told now (CreateEnds h ended.WriteFault) (λ before tells.
+    let says = TellsOn-some told now (λ before after. after.said ≡ before.said) before tells said in (
+      says.0,
+      says.1,
+      broken_ends h ended.WriteFault before says.0 refl says.2 (record {
+        bytes = λ some. absurd (not_both before (empty before tells) some);
+        written = λ ok. absurd (ok refl);
+      }),
+    ))
 
 -- ---- what a crash leaves
+
+-- An opening finds the new database of the files that were made.
+made_found : (h : Header) → IsWithinLimits h → (before now : Contents) → IsMade h before now
+    → recovered now.db now.images ≡ Some (new_database h)
+made_found h limits before now made =
+    rest_found (new_database h) now (record {
+      closed = ap (take 9) made.images;
+      whole = record { readable = nothing_ends h limits; len = whole_read h limits };
+      front = take_all (length (new_database h)) now.db (omega (arith, ap length made.db)) ∙ made.db;
+    })
 
 module _ (h : Header) (limits : IsWithinLimits h) (text : List ℕ) (before : Contents) where
   -- a new database stands for the map without nodes
@@ -164,57 +195,71 @@ module _ (h : Header) (limits : IsWithinLimits h) (text : List ℕ) (before : Co
       inr (record { image = new_database h; recovers = found; stands = stands_read h limits }))
       finds
 
-  pub newborn_left : (c : Contents) → IsNewborn h before c → IsRefusedOrEmpty text before c
-  newborn_left c newborn = record {
+  -- the text isn't said where nothing more is
+  unsaid : (said : List ℕ) → 0 < length text → said ≡ said ++ text → ⊥
+  unsaid said some is =
+      let lengths = ap length is in let more = length-append said text in omega (arith, some, lengths, more)
+
+  pub newborn_left : 0 < length text → (c : Contents) → IsNewborn h before c → IsRefusedOrEmpty text before c
+  newborn_left some c newborn = record {
     finds = found_empty c newborn.finds;
     said = (0, newborn.said ∙ sym (append-nil before.said));
+    durable = λ whole. absurd (unsaid before.said some (sym newborn.said ∙ whole));
   }
 
-  -- more was said, and the files stayed
-  refused_said : (c d : Contents) (n : ℕ) → d ≡ record c { said = c.said ++ take n text } → IsRefused c → IsRefused d
-  refused_said c d n is refused =
-      ⊎_elim
-      (λ (none : recovered c.db c.images ≡ None).
-      inl (ap (λ (x : Contents). recovered x.db x.images) is ∙ none))
-      (λ (ends : EndsReading c).
-      inr (record {
-        file = ends.file;
-        found = ap (λ (x : Contents). recovered x.db x.images) is ∙ ends.found;
-        unreadable = ends.unreadable;
-      }))
-      refused
+  -- of the new database more may have been said
+  made_empty : (now : Contents) → IsMade h before now → (c d : Contents) → d ≡ now → (n : ℕ)
+      → c ≡ record d { said = d.said ++ take n text } → FindsEmpty c
+  made_empty now made c d same n is = record {
+    image = new_database h;
+    recovers = ap (λ (x : Contents). recovered x.db x.images) is ∙ ap (λ (x : Contents). recovered x.db x.images) same
+        ∙ made_found h limits before now made;
+    stands = stands_read h limits;
+  }
 
-  said_left : (c : Contents) → during (SaysSome text) (IsNewborn h before) c → IsRefusedOrEmpty text before c
-  said_left c says =
-      let newborn = says.1 in
+  said_left : (now : Contents) → IsMade h before now → (c : Contents) → during (SaysSome text) (λ d. d ≡ now) c
+      → IsRefusedOrEmpty text before c
+  said_left now made c says =
       let step = says.2 in
+      let empty = made_empty now made c says.0 says.1 step.0 step.1 in
       record {
-        finds = ⊎_elim (λ (refused : IsRefused says.0). inl (refused_said says.0 c step.0 step.1 refused))
-            (λ (found : recovered says.0.db says.0.images ≡ Some (new_database h)).
-            found_empty c (inr (ap (λ (x : Contents). recovered x.db x.images) step.1 ∙ found)))
-            newborn.finds;
+        finds = inr empty;
         said = (
           step.0,
-          ap (λ (x : Contents). x.said) step.1 ∙ ap (λ (said : List ℕ). said ++ take step.0 text) newborn.said,
+          ap (λ (x : Contents). x.said) step.1 ∙ ap (λ (x : Contents). x.said ++ take step.0 text) says.1
+              ∙ ap (λ (said : List ℕ). said ++ take step.0 text) made.said,
         );
+        durable = λ _. empty;
       }
 
   module _ {H : Type 0} {moment : H → ℕ} {left_since : H → ℕ → Contents → Type 0}
-      (longer : (host : H) (t u : ℕ) (c : Contents) → t ≤ u → left_since host u c → left_since host t c) where
+      (longer : (host : H) (t u : ℕ) (c : Contents) → t ≤ u → left_since host u c → left_since host t c)
+      (some : 0 < length text) where
     -- the files were made, or that broke off
     pub made_leaves : (old now : H) → HasCome moment left_since old now (IsNewborn h before) (IsNewborn h before)
         → LeavesOnly moment left_since old now (IsRefusedOrEmpty text before)
-    made_leaves old now come = (come_weaker (IsRefusedOrEmpty text before) come newborn_left).only
+    made_leaves old now come = (come_weaker (IsRefusedOrEmpty text before) come (newborn_left some)).only
 
-    -- and then this was said
-    pub said_leaves : (spoken : List ℕ) → spoken ≡ text → (old mid now : H)
+    -- They were made, and then this was said.
+    pub said_leaves : (spoken : List ℕ) → spoken ≡ text → (old mid now : H) (there : Contents) → IsMade h before there
+        → EachLeft moment left_since mid (λ c. c ≡ there)
         → HasCome moment left_since old mid (IsNewborn h before) (IsNewborn h before)
         → LeavesBy moment left_since (SaysSome spoken) mid now
         → LeavesOnly moment left_since old now (IsRefusedOrEmpty text before)
-    said_leaves spoken is old mid now come by =
+    said_leaves spoken is old mid now there made stable come by =
         let P : List ℕ → Type 0 = λ t. LeavesBy moment left_since (SaysSome t) mid now in
-        (come_by longer (SaysSome text) (come_weaker (IsRefusedOrEmpty text before) come newborn_left) (subst P is by)
-        said_left).only
+        let made_yet : HasCome moment left_since old mid (IsRefusedOrEmpty text before) (λ c. c ≡ there) =
+        record { only = (come_weaker (IsRefusedOrEmpty text before) come (newborn_left some)).only; each = stable } in
+        (come_by longer (SaysSome text) made_yet (subst P is by) (said_left there made)).only
+
+    -- Then a crash leaves the new database.
+    pub said_empty : (spoken : List ℕ) → spoken ≡ text → (mid now : H) (there : Contents) → IsMade h before there
+        → EachLeft moment left_since mid (λ c. c ≡ there) → LeavesBy moment left_since (SaysSome spoken) mid now
+        → EachLeft moment left_since now FindsEmpty
+    said_empty spoken is mid now there made stable by c left =
+        let P : List ℕ → Type 0 = λ t. LeavesBy moment left_since (SaysSome t) mid now in
+        let says = (subst P is by).each c (longer now (moment mid) (moment now) c by.later left) in
+        made_empty there made c says.0 (stable says.0 says.1) says.2.0 says.2.1
 
     -- no call was made
     pub none_leaves : {contents : H → Option Contents} (host : H)
@@ -227,3 +272,29 @@ module _ (h : Header) (limits : IsWithinLimits h) (text : List ℕ) (before : Co
         record { told = refl; crash = LeavesTheSame-refl moment left_since host } in
         made_leaves host host
         (unwritten_come longer h before same each (λ c left. said_stays host before c tells left))
+
+  -- where it isn't said that they were made, and no file had bytes
+  pub not_made : {H : Type 0} {moment : H → ℕ} {left_since : H → ℕ → Contents → Type 0} → (old now : H)
+      → (total : ℕ) (status : Status) → text ≡ (created total).text → (status ≡ ended.Done → ⊥)
+      → (EachLeft moment left_since old IsEmpty → LeavesOnly moment left_since old now (IsRefusedOrEmpty text before))
+      → (HasBytes before → LeavesBy moment left_since (SaysSome not_empty.text) old now)
+      → LeavesCreated moment left_since total status old now before
+  not_made {H} {moment} {left_since} old now total status is ended leaves bytes = record {
+    empty = λ each.
+        subst (λ t. LeavesOnly moment left_since old now (IsRefusedOrEmpty t before)) is (leaves each);
+    done = λ done. absurd (ended done);
+    bytes = bytes;
+  }
+
+-- Files that stay are as if some of the reply had been said.
+pub kept_by : {H : Type 0} {moment : H → ℕ} {left_since : H → ℕ → Contents → Type 0} {old now : H}
+    → LeavesTheSame moment left_since old now → LeavesBy moment left_since (SaysSome not_empty.text) old now
+kept_by {H} {moment} {left_since} {old} {now} same =
+    by_same moment left_since (SaysSome not_empty.text) old now (SaysSome-refl not_empty.text) same
+
+pub not_done : {status : Status} → (status ≡ ended.NotEmpty) ⊎ (status ≡ ended.SayFault) → status ≡ ended.Done → ⊥
+not_done is done = ⊎_elim (λ (e : _). cc) (λ (e : _). cc) is
+
+pub some_created : (total : ℕ) → 0 < length (created total).text
+some_created total =
+    let more = length-append (codes "CREATED " ++ decimal total) (10 ∷ []) in omega (arith, more)

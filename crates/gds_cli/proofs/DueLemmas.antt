@@ -13,6 +13,7 @@ use Rattle.gds_law.specs.Faults.{AreFaults}
 use Rattle.gds_law.proofs.KeptLemmas.{one_fault_list}
 use Rattle.gds_new.specs.NewDatabase.{new_database}
 use Rattle.gds_create.specs.Newborn.{HasBytes, IsEmpty, closed_images}
+use Rattle.gds_recovery.specs.Found.{SameFiles}
 use Rattle.gds_words.specs.declared.words.Command.{Command}
 use Rattle.gds_words.specs.declared.words.Command.TheVariants.{Version, Integ, Extract, Create, Run}
 use Rattle.gds_words.specs.declared.words.BadWords.{BadWords}
@@ -20,7 +21,7 @@ use Rattle.gds_cli.specs.declared.status.Status.{Status}
 use Rattle.gds_cli.specs.declared.status.Status.TheVariants as ended
 use Rattle.gds_cli.specs.Status.{is_break}
 use Rattle.gds_cli.specs.Thin.{IsThinWith}
-use Rattle.gds_cli.specs.Answer.{BecomesNew, CreateDue, Due, ExtractDue, FaultsDue, Reply, SameFiles, created}
+use Rattle.gds_cli.specs.Answer.{BecomesNew, CreateDue, Due, ExtractDue, FaultsDue, Reply, created}
 use Rattle.gds_cli.specs.Answer.{header_with, list_reply, not_built, not_empty}
 use Rattle.gds_cli.specs.Saying.{Answers, OnlySays, SaysFrontOf}
 use Rattle.gds_cli.specs.Extract.{BreaksOff, SaysThin}

@@ -6,10 +6,9 @@ use Rattle.arrayvec.specs.ArrayVec.{ArrayVec}
 use Rattle.host_model.specs.Files.{Contents, saying}
 use Rattle.host_model.specs.Told.{TellsOn}
 use Rattle.host_model.proofs.FrameLemmas.{TellsOn-same, TellsOn-weaker}
-use Rattle.host_model.specs.Moments.{EachLeft, LeavesOnly}
 use Rattle.gds_header.specs.declared.header.Header.{Header}
 use Rattle.gds_header.specs.Kinds.{IsWithinLimits}
-use Rattle.gds_create.specs.Newborn.{IsEmpty}
+use Rattle.gds_recovery.specs.Found.{SameFiles}
 use Rattle.gds_lines.specs.LinesState.{IsEnd}
 use Rattle.gds_words.specs.declared.words.Command.{Command}
 use Rattle.gds_words.specs.declared.words.Command.TheVariants.{Extract, Create}
@@ -17,8 +16,8 @@ use Rattle.gds_words.specs.declared.words.BadWords.{BadWords}
 use Rattle.gds_words.specs.Words.{MakesHeader}
 use Rattle.gds_cli.specs.declared.status.Status.{Status}
 use Rattle.gds_cli.specs.Status.{is_break}
-use Rattle.gds_cli.specs.Answer.{Ends, EndsAs, ExtractDue, Replies, Reply, SameFiles, SaysFront, IsRefusedOrEmpty}
-use Rattle.gds_cli.specs.Answer.{Leaves, created, header_with}
+use Rattle.gds_cli.specs.Answer.{Ends, EndsAs, ExtractDue, Leaves, LeavesCreated, Replies, Reply, SaysFront}
+use Rattle.gds_cli.specs.Answer.{header_with}
 use Rattle.gds_cli.specs.Create.{CreateEnds}
 use Rattle.gds_cli.specs.Saying.{OnlySays}
 use Rattle.gds_cli.proofs.DueLemmas.{match_both}
@@ -102,15 +101,22 @@ module _ (command : Result Command BadWords) (block key value alloc ext limit : 
       subst P (sym is) (subst Q same ends)
 
   pub create_leaves : {H : Type 0} {moment : H → ℕ} {left_since : H → ℕ → Contents → Type 0} (host now : H)
-      (told : Option Contents) (input : List ℕ)
-      → ForSome told (λ before. EachLeft moment left_since host IsEmpty
-      → LeavesOnly moment left_since host now (IsRefusedOrEmpty (created h.total).text before))
-      → ForSome told (Leaves moment left_since command input host now)
-  create_leaves {H} {moment} {left_since} host now told input leaves before tells =
-      let P : Result Command BadWords → Type 0 = λ k. Leaves moment left_since k input host now before in
-      let Q : Header → Type 0 = λ x. EachLeft moment left_since host IsEmpty
-      → LeavesOnly moment left_since host now (IsRefusedOrEmpty (created x.total).text before) in
+      (status : Status) (told : Option Contents) (input : List ℕ)
+      → ForSome told (LeavesCreated moment left_since h.total status host now)
+      → ForSome told (Leaves moment left_since command input status host now)
+  create_leaves {H} {moment} {left_since} host now status told input leaves before tells =
+      let P : Result Command BadWords → Type 0 = λ k. Leaves moment left_since k input status host now before in
+      let Q : Header → Type 0 = λ x. LeavesCreated moment left_since x.total status host now before in
       subst P (sym is) (subst Q same (leaves before tells))
+
+-- What a crash leaves where the words are known
+pub known_leaves : {H : Type 0} (moment : H → ℕ) (left_since : H → ℕ → Contents → Type 0) (host now : H)
+    (status : Status) (command known : Result Command BadWords) (input : List ℕ) (before : Contents)
+    → command ≡ known → Leaves moment left_since known input status host now before
+    → Leaves moment left_since command input status host now before
+known_leaves moment left_since host now status command known input before is leaves =
+    let P : Result Command BadWords → Type 0 = λ k. Leaves moment left_since k input status host now before in
+    subst P (sym is) leaves
 
 -- a call that broke off
 pub breaks_as : (due : Reply → Contents → Type 0) (broken : Type 0) (status : Status) (before after : Contents)

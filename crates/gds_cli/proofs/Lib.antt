@@ -6,6 +6,7 @@ mod SayingLemmas
 mod DirectoryLemmas
 mod ExtractLemmas
 mod DueLemmas
+mod MomentLemmas
 mod EndsLemmas
 mod CreateLemmas
 mod RunLemmas

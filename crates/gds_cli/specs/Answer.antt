@@ -3,8 +3,9 @@ use Rattle.std.specs.Prelude.{◌≡◌, ◌≢◌, ◌⊎◌, ℕ, MatchBool, L
 use Rattle.std.specs.Prelude.{Err, Option, Some, codes}
 use Rattle.std.specs.Fmt.{decimal}
 use Rattle.std.specs.FinMap.{empty}
+use Rattle.host_model.specs.Disk.{SaysSome}
 use Rattle.host_model.specs.Files.{Contents}
-use Rattle.host_model.specs.Moments.{EachLeft, LeavesOnly}
+use Rattle.host_model.specs.Moments.{EachLeft, LeavesBy, LeavesOnly}
 use Rattle.m_key.specs.Globals.{Globals}
 use Rattle.m_text.specs.Extract.{zwr}
 use Rattle.gds_header.specs.declared.header.Header.{Header}
@@ -17,7 +18,8 @@ use Rattle.gds_new.specs.NewDatabase.{new_database}
 use Rattle.gds_create.specs.Newborn.{HasBytes, IsEmpty, IsRefused, closed_images}
 use Rattle.gds_opening.specs.Opening.{FindsFaults}
 use Rattle.gds_script.specs.Answer.{answer_lines}
-use Rattle.gds_run.specs.Run.{Breaks, FindsNoMap, IsRun, LeavesPrefixes}
+use Rattle.gds_recovery.specs.Found.{IsLeftAlone, LeavesSinceBarrier, SameFiles}
+use Rattle.gds_run.specs.Run.{FindsNoMap, IsBrokenRun, IsRun, LeavesPrefixes}
 use Rattle.gds_words.specs.declared.words.Command.{Command}
 use Rattle.gds_words.specs.declared.words.Command.TheVariants.{Version, Integ, Extract, Create, Run}
 use Rattle.gds_words.specs.declared.words.BadWords.{BadWords}
@@ -68,11 +70,6 @@ ExtractDue stamp c reply =
     ((m : Globals) × IsThinWith c.db c.images m × (reply ≡ record { text = zwr m stamp; status = ended.Done }))
     ⊎ (((m : Globals) → IsThinWith c.db c.images m → ⊥) × (reply ≡ not_built))
 
--- Both files hold what they held.
-pub record SameFiles (before after : Contents) : Type 0 where
-  pub db : after.db ≡ before.db
-  pub images : after.images ≡ before.images
-
 -- They were empty, and are those of a new database with the numbers of a header.
 pub record BecomesNew (h : Header) (before after : Contents) : Type 0 where
   pub empty : IsEmpty before
@@ -119,11 +116,11 @@ RefusalDue c reply =
     ⊎ ((faults : ℕ) × (faults ≢ 0) × FindsFaults faults c × (reply ≡ unsound faults))
 
 -- RUN answers each line of its input by a line, and leaves the database that the changes lead to. Where the files can't
--- be opened it says why, and the next opening finds what it would have found.
+-- be opened it says why, and leaves them alone.
 abbrev pub RunDue : List ℕ → Contents → Reply → Contents → Type 0
 RunDue input before reply after =
     ((run : IsRun input before after) × (reply ≡ record { text = answer_lines run.answers; status = ended.Done }))
-    ⊎ (RefusalDue before reply × (recovered after.db after.images ≡ recovered before.db before.images))
+    ⊎ (RefusalDue before reply × IsLeftAlone before after)
 
 -- Which reply is due for the words, where the host holds this before and the input has this text, and what the files
 -- hold once it is said.
@@ -151,22 +148,28 @@ pub record SaysFront (due : Reply → Contents → Type 0) (before after : Conte
   pub says : after.said ≡ before.said ++ text
   pub front : (reply : Reply) (later : Contents) → due reply later → (n : ℕ) × (text ≡ take n reply.text)
 
--- Where CREATE breaks off, and no write failed, both files are as they were, or are the new database.
-abbrev pub AllOrNothing : Header → Status → Contents → Contents → Type 0
-AllOrNothing h status before after = status ≢ ended.WriteFault → SameFiles before after ⊎ BecomesNew h before after
+-- Where CREATE breaks off, files of which one has bytes are as they were; and so are two empty files, or they are the
+-- new database, unless a write failed.
+pub record AllOrNothing (h : Header) (status : Status) (before after : Contents) : Type 0 where
+  pub bytes : HasBytes before → SameFiles before after
+  pub written : status ≢ ended.WriteFault → SameFiles before after ⊎ BecomesNew h before after
 
 abbrev pub CreateBreaksOff : Header → Status → Contents → Contents → Type 0
 CreateBreaksOff h status before after =
     SaysFront (CreateDue h before) before after × AllOrNothing h status before after
 
+-- Nothing was said, or some first bytes of why the files can't be opened.
+abbrev pub SaysRefusal : Contents → Contents → Type 0
+SaysRefusal before after =
+    (after.said ≡ before.said)
+    ⊎ ((reply : Reply) × RefusalDue before reply × (n : ℕ) × (after.said ≡ before.said ++ take n reply.text))
+
 -- Where RUN breaks off, nothing was said; or it answered some first lines of the input, and some first bytes of the
 -- answers were said; or it said some first bytes of why the files can't be opened. What the files hold is among what a
--- crash leaves, and of files that can't be opened the next opening finds what it would have found.
+-- crash leaves, and files that can't be opened are left alone.
 abbrev pub RunBreaksOff : List ℕ → Contents → Contents → Type 0
 RunBreaksOff input before after =
-    (Breaks input before after
-    ⊎ ((reply : Reply) × RefusalDue before reply × (n : ℕ) × (after.said ≡ before.said ++ take n reply.text)))
-    × (FindsNoMap before → recovered after.db after.images ≡ recovered before.db before.images)
+    (SaysRefusal before after ⊎ IsBrokenRun input before after) × (FindsNoMap before → IsLeftAlone before after)
 
 -- The other commands leave both files as they are.
 abbrev pub BreaksOff : Result Command BadWords → List ℕ → Status → Contents → Contents → Type 0
@@ -198,18 +201,46 @@ pub record FindsEmpty (c : Contents) : Type 0 where
   pub recovers : recovered c.db c.images ≡ Some image
   pub stands : StandsFor image empty
 
--- An opening refuses the files, or finds no node in them; and some of the text was said.
+-- An opening refuses the files, or finds no node in them; and some of the text was said. Where all of it was, no node
+-- is found.
 pub record IsRefusedOrEmpty (text : List ℕ) (before c : Contents) : Type 0 where
   pub finds : IsRefused c ⊎ FindsEmpty c
   pub said : (n : ℕ) × (c.said ≡ before.said ++ take n text)
+  pub durable : c.said ≡ before.said ++ text → FindsEmpty c
+
+-- Files that can't be opened are left alone, and some of why they can't be was said.
+pub record IsLeftRefused (before c : Contents) : Type 0 where
+  pub files : IsLeftAlone before c
+  pub said : SaysRefusal before c
+
+-- RUN may end before both files are stable for want of memory, or where that failed.
+abbrev pub EndsEarly : Status → Type 0
+EndsEarly ended.Memory = Unit {0}
+EndsEarly ended.WriteFault = Unit {0}
+EndsEarly other = ⊥
 
 module _ {H : Type 0} (moment : H → ℕ) (left_since : H → ℕ → Contents → Type 0) where
-  -- What a crash at any moment of the call leaves. Of CREATE it is said where a crash before left two empty files. In a
-  -- RUN, from when both files are stable, it leaves the map after a prefix of the answered changes, with all those that
-  -- the last line `EPOCH n` tells.
-  abbrev pub Leaves : Result Command BadWords → List ℕ → H → H → Contents → Type 0
-  Leaves (Ok Run) input host now before = LeavesPrefixes moment left_since input before host now
-  Leaves (Ok (Create block key value alloc ext limit)) input host now before =
-      EachLeft moment left_since host IsEmpty
-      → LeavesOnly moment left_since host now (IsRefusedOrEmpty (created alloc).text before)
-  Leaves command input host now before = Unit {0}
+  -- What a crash at any moment of a CREATE of so many blocks leaves. Where one before left two empty files, it leaves
+  -- files that are refused, or without a node once it was said that they are made. Files with bytes stay.
+  pub record LeavesCreated (total : ℕ) (status : Status) (old now : H) (before : Contents) : Type 0 where
+    pub empty : EachLeft moment left_since old IsEmpty
+        → LeavesOnly moment left_since old now (IsRefusedOrEmpty (created total).text before)
+    pub done : status ≡ ended.Done → EachLeft moment left_since now FindsEmpty
+    pub bytes : HasBytes before → LeavesBy moment left_since (SaysSome not_empty.text) old now
+
+  -- What one of a RUN leaves, from when both files are stable: the map after a prefix of the answered changes, with all
+  -- those that the last line `EPOCH n` tells. Files that can't be opened it leaves alone.
+  pub record LeavesRun (input : List ℕ) (status : Status) (old now : H) (before : Contents) : Type 0 where
+    pub opened : LeavesPrefixes moment left_since (EndsEarly status) input before old now
+    pub refused : FindsNoMap before
+        → LeavesSinceBarrier moment left_since (EndsEarly status) old now (IsLeftRefused before)
+
+  -- VERSION and bad words leave what was there, with some of the reply said. Of INTEG and EXTRACT nothing is said.
+  abbrev pub Leaves : Result Command BadWords → List ℕ → Status → H → H → Contents → Type 0
+  Leaves (Err bad) input status old now before =
+      LeavesBy moment left_since (SaysSome (bad_words bad.place).text) old now
+  Leaves (Ok Version) input status old now before = LeavesBy moment left_since (SaysSome version.text) old now
+  Leaves (Ok (Create block key value alloc ext limit)) input status old now before =
+      LeavesCreated alloc status old now before
+  Leaves (Ok Run) input status old now before = LeavesRun input status old now before
+  Leaves command input status old now before = Unit {0}

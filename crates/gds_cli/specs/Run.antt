@@ -1,8 +1,10 @@
 -- How RUN ends, and what it says of an error.
 use Rattle.std.specs.Prelude.{◌≡◌, ◌⊎◌, ◌++◌, List, ℕ, codes}
 use Rattle.std.specs.Fmt.{decimal}
+use Rattle.host_model.specs.Disk.{SaysSome}
 use Rattle.host_model.specs.Failures.{Failures, Rose}
 use Rattle.host_model.specs.Files.{Contents}
+use Rattle.host_model.specs.Moments.{LeavesBy}
 use Rattle.gds_run.specs.declared.error.RunError.{RunError}
 use Rattle.gds_run.specs.declared.error.RunError.TheVariants as error
 use Rattle.gds_cli.specs.declared.status.Status.{Status}
@@ -54,3 +56,10 @@ IsSilent (error.BadImages at) = ⊥
 IsSilent (error.Unsound faults) = ⊥
 IsSilent (error.Changed unit) = ⊥
 IsSilent other = Unit {0}
+
+-- A crash leaves both files as one before would have, with some of the line said.
+module _ {H : Type 0} (moment : H → ℕ) (left_since : H → ℕ → Contents → Type 0) where
+  abbrev pub LeavesSaying : RunError → H → H → Type 0
+  LeavesSaying (error.BadImages at) old now = LeavesBy moment left_since (SaysSome (bad_images at).text) old now
+  LeavesSaying (error.Unsound faults) old now = LeavesBy moment left_since (SaysSome (unsound faults).text) old now
+  LeavesSaying other old now = Unit {0}

@@ -42,7 +42,7 @@ pub fn gds<H: Host, I: Source>(alloc: Global, words: &[String], host: H, input: 
         ⊎ Replies (Due (command_in words.now) text before) result.status before after) }
     // What a crash at any moment of it leaves.
     ensures crash { (text : List ℕ) → IsGiven (command_in words.now) (I.left input) text → ForSome (H.told host)
-        (λ before. Leaves H.moment H.left_since (command_in words.now) text host result.host before) }
+        (λ before. Leaves H.moment H.left_since (command_in words.now) text result.status host result.host before) }
     // Where INTEG finds no fault the database file stands for exactly one map of globals.
     ensures one_map { command_in words.now ≡ Ok Command.Integ → result.status ≡ Status.Done
         → ForSome (H.told host) (λ c. HasOneMap c.db) }
@@ -84,7 +84,7 @@ fn answer<H: Host, I: Source>(
     ensures host { (text : List ℕ) → IsGiven command (I.left input) text
         → TellsOn (H.told host) (H.told result.1) (Ends command text result.0) }
     ensures crash { (text : List ℕ) → IsGiven command (I.left input) text → ForSome (H.told host)
-        (λ before. Leaves H.moment H.left_since command text host result.1 before) }
+        (λ before. Leaves H.moment H.left_since command text result.0 host result.1 before) }
     ensures one_map { command ≡ Ok Command.Integ → result.0 ≡ Status.Done
         → ForSome (H.told host) (λ c. HasOneMap c.db) }
     ensures unread { command ≡ Ok Command.Integ → result.0 ≡ Status.ReadFault

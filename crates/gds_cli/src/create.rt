@@ -1,12 +1,10 @@
 ghost use Rattle.std.specs.Prelude.{◌≡◌};
 ghost use Rattle.host_model.specs.Frames.{WasUsed};
-ghost use Rattle.host_model.specs.Moments.{EachLeft, LeavesOnly};
 ghost use Rattle.std.specs.Option.{ForSome};
 ghost use Rattle.gds_header.specs.Kinds.{IsWithinLimits};
-ghost use Rattle.gds_create.specs.Newborn.{IsEmpty};
 ghost use Rattle.gds_cli.specs.Status.{HasCause};
 ghost use Rattle.gds_cli.specs.Create.{CreateEnds, IsCreateStatus};
-ghost use Rattle.gds_cli.specs.Answer.{IsRefusedOrEmpty, created, header_with};
+ghost use Rattle.gds_cli.specs.Answer.{LeavesCreated, header_with};
 
 use crate::saying::say;
 use crate::status::Status;
@@ -20,9 +18,8 @@ use std::alloc::Global;
 pub(crate) fn create<H: Host>(alloc: Global, host: &mut H, header: &Header) -> Status
     requires { IsWithinLimits header.now }
     ensures host { WasUsed H.told H.failures host.old host.new (CreateEnds header.now result) }
-    ensures crash { ForSome (H.told host.old) (λ before. EachLeft H.moment H.left_since host.old IsEmpty
-        → LeavesOnly H.moment H.left_since host.old host.new
-        (IsRefusedOrEmpty (created header.now.total).text before)) }
+    ensures crash { ForSome (H.told host.old)
+        (LeavesCreated H.moment H.left_since header.now.total result host.old host.new) }
     ensures status { IsCreateStatus result }
     ensures cause { HasCause result (H.failures host.old) (H.failures host.new) }
 {

@@ -4,10 +4,10 @@ ghost use Rattle.host_model.specs.Failures.{NeverFell, Rose};
 ghost use Rattle.host_model.specs.Frames.{WasUsed};
 ghost use Rattle.host_model.specs.Told.{TellsOn};
 ghost use Rattle.gds_lines.specs.LinesState.{IsAboveLimit, IsEnd};
-ghost use Rattle.gds_run.specs.Run.{LeavesPrefixes};
 ghost use Rattle.gds_words.specs.declared.words.Command.TheVariants.{Run};
 ghost use Rattle.gds_cli.specs.Status.{HasCause, MayEnd};
-ghost use Rattle.gds_cli.specs.Run.{GivesStatus, IsSilent, RunEnds, SaysWhy};
+ghost use Rattle.gds_cli.specs.Answer.{LeavesRun};
+ghost use Rattle.gds_cli.specs.Run.{GivesStatus, IsSilent, LeavesSaying, RunEnds, SaysWhy};
 
 use crate::saying::say_number;
 use crate::status::Status;
@@ -20,7 +20,7 @@ pub(crate) fn run<H: Host, I: Source>(alloc: Global, host: H, input: I) -> (Stat
     ensures host { (text : List ℕ) → I.left input ≡ Some text
         → TellsOn (H.told host) (H.told result.1) (RunEnds text result.0) }
     ensures crash { (text : List ℕ) → I.left input ≡ Some text → ForSome (H.told host)
-        (λ before. LeavesPrefixes H.moment H.left_since text before host result.1) }
+        (λ before. LeavesRun H.moment H.left_since text result.0 host result.1 before) }
     ensures status { MayEnd (Ok Run) result.0 }
     ensures cause { HasCause result.0 (H.failures host) (H.failures result.1) }
     ensures input_cause { result.0 ≡ Status.InputFault → Rose (I.failures input) (I.failures result.2) }
@@ -48,6 +48,7 @@ pub(crate) fn run<H: Host, I: Source>(alloc: Global, host: H, input: I) -> (Stat
 fn say_why<H: Host>(alloc: Global, host: &mut H, error: RunError) -> Status
     ensures host { WasUsed H.told H.failures host.old host.new (SaysWhy error result) }
     ensures silent { IsSilent error → host.new ≡ host.old }
+    ensures crash { LeavesSaying H.moment H.left_since error host.old host.new }
     ensures status { GivesStatus error result (H.failures host.old) (H.failures host.new) }
 {
     match error {

@@ -39,6 +39,8 @@ pub(crate) fn say_number<H: Host>(
     requires { is_break status ≡ false }
     ensures host { WasUsed H.told H.failures host.old host.new
         (Answers (record { text = line (word.now ++ codes " " ++ decimal number); status = status }) result) }
+    ensures any_moment { LeavesBy H.moment H.left_since (SaysSome (line (word.now ++ codes " " ++ decimal number)))
+        host.old host.new }
     ensures status { (result ≡ status) ⊎ ((result ≡ Status.Memory) ⊎ (result ≡ Status.SayFault)) }
     ensures fault { result ≡ Status.SayFault → Rose (H.failures host.old).say (H.failures host.new).say }
     ensures clock { result ≢ Status.Memory → H.moment host.new ≡ counted (H.moment host.old) }

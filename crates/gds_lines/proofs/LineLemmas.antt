@@ -8,6 +8,8 @@ use Rattle.std.proofs.lemmas.List.{drop_at, drop_all, take_all}
 use Rattle.std.proofs.lemmas.List.Splits.{slice_split_none, slice_split_first, length-slice_split}
 use Rattle.std.proofs.lemmas.List.Sums.{fails_before_first, prefix_len-le-length, position_or_len_is}
 use Rattle.memchr.specs.Find.{IsFirstByte, is_byte}
+use Rattle.std.specs.Io.KnownBytes.{prepend_known}
+use Rattle.std.specs.Prelude.{IfSome, is_some, nat_lt}
 use Rattle.std.specs.List.{prefix_len, before_first, slice_split}
 use Rattle.std.specs.Str.Lines.{lines, lines_of_parts, strip_carriage_return}
 use Rattle.gds_lines.specs.declared.TheConstants.{LINE_LIMIT}
@@ -256,3 +258,19 @@ line_len-grown xs ys h front =
     let whole : xs ++ drop (length xs) ys ≡ ys =
     ap (λ l. l ++ drop (length xs) ys) (sym front) ∙ take-append-drop (length xs) ys in
     omega (arith, line_len-append_none xs (drop (length xs) ys) h, ap line_len whole)
+
+-- Whether a line end is among the bytes that are held, of a text of which so many were taken
+pub ends_held : (held : List ℕ) (left : Option (List ℕ)) (taken : ℕ) (found : Option ℕ) (some : Bool)
+    → length held ≤ taken
+    → MatchOption found (line_len held ≡ length held) (λ end. (end ≡ line_len held) × (end < length held))
+    → some ≡ is_some found
+    → IfSome (prepend_known held left) (λ text. some ≡ nat_lt (line_len text) (taken - (taken - length held)))
+ends_held held None taken found some within ends is = tt
+ends_held held (Some rest) taken None some within ends is =
+    let none = line_len-append_none held rest ends in
+    is ∙ sym (le-ltb (line_len (held ++ rest)) (taken - (taken - length held)) (omega (arith, none, within)))
+ends_held held (Some rest) taken (Some end) some within ends is =
+    let same = line_len-append_found held rest (omega (arith, ends.0, ends.1)) in
+    is
+    ∙ sym (lt-ltb (line_len (held ++ rest)) (taken - (taken - length held))
+    (omega (arith, same, ends.0, ends.1, within)))

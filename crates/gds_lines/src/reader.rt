@@ -1,16 +1,16 @@
-ghost use Rattle.std.specs.Prelude.{◌≡◌, false, IfOk, IfSome, IsFalse};
+ghost use Rattle.std.specs.Prelude.{◌≡◌, ◌-◌, nat_lt, false, IfOk, IfSome, IsFalse};
 ghost use Rattle.std.specs.Option.{option_copied};
 ghost use Rattle.std.specs.Borrow.{sem};
 ghost use Rattle.std.specs.Io.BufRead.{Rests};
 ghost use Rattle.host_model.specs.Told.{TellsOn};
-ghost use Rattle.gds_lines.specs.Lines.{next_line};
+ghost use Rattle.gds_lines.specs.Lines.{line_len, next_line};
 ghost use Rattle.gds_lines.specs.LinesState.{IsEnd, LineTaken};
 
 use crate::LinesError;
 use crate::ahead::Ahead;
 use crate::finding::find_line;
+use crate::scan::line_end;
 use host_model::Source;
-use memchr::memchr;
 use std::alloc::Global;
 use std::marker::Model;
 
@@ -91,8 +91,11 @@ impl<I: Source> Lines<I> {
 
     /// Whether a line was taken whole from the source and not given yet, so that the next one asks the source for
     /// nothing.
-    pub fn has_line(&self) -> bool {
-        memchr(b'\n', self.ahead.held()).is_some()
+    pub fn has_line(&self) -> bool
+        // Where the source tells its bytes, the end of the next line is among those that were taken.
+        ensures { IfSome self.now.left (λ text. result ≡ nat_lt (line_len text) (self.now.taken - self.now.passed)) }
+    {
+        line_end(self.ahead.held(), 0).is_some()
     }
 
     /// The source. Bytes that were taken from it and not given are lost.

@@ -1,6 +1,6 @@
 -- What an opening finds of what a stop of an earlier one has left.
 use Rattle.std.proofs.Common.{◌≡◌, ◌≢◌, ℕ, ◌+◌, ◌-◌, ◌<◌, ◌≤◌, List, [], ◌∷◌, ◌++◌, length, take, drop, slice_index}
-use Rattle.std.proofs.Common.{Some, Ok, refl, sym, ap, cond, eqb, ◌∙◌, ⊎_elim, arith, length-take, length-drop}
+use Rattle.std.proofs.Common.{None, Some, Ok, refl, sym, ap, cond, eqb, ◌∙◌, ⊎_elim, arith, length-take, length-drop}
 use Rattle.std.proofs.Common.{get_or-take}
 use Rattle.std.proofs.Common.{append_assoc, get_or-drop, length-append}
 use Rattle.std.specs.Prelude.{nat_eq, slice_set}
@@ -29,17 +29,39 @@ use Rattle.gds_recovery.proofs.EpochLemmas.{open_beside, same_epoch_file}
 use Rattle.gds_recovery.proofs.OpenGateLemmas.{IsOpenIn, laid_alike, opened_alike, opened_stand}
 
 pub FindsSame-refl : (c : Contents) → FindsSame c c
-FindsSame-refl c = record { found = refl; said = refl }
+FindsSame-refl c = record {
+  files = record { found = refl; kept = λ _. record { db = refl; images = refl } };
+  said = refl;
+}
 
 pub FindsSame-then : (a b c : Contents) → FindsSame a b → FindsSame b c → FindsSame a c
-FindsSame-then a b c first second =
-    record { found = second.found ∙ first.found; said = second.said ∙ first.said }
+FindsSame-then a b c first second = record {
+  files = record {
+    found = second.files.found ∙ first.files.found;
+    kept = λ none.
+        let early = first.files.kept none in
+        let late = second.files.kept (first.files.found ∙ none) in
+        record { db = late.db ∙ early.db; images = late.images ∙ early.images };
+  };
+  said = second.said ∙ first.said;
+}
+
+-- Where an opening finds a file, the same is found.
+pub finds_file : (c d : Contents) (file : List ℕ) → recovered c.db c.images ≡ Some file
+    → recovered d.db d.images ≡ Some file → d.said ≡ c.said → FindsSame c d
+finds_file c d file before now said = record {
+  files = record { found = now ∙ sym before; kept = λ none. absurd (none_some (sym none ∙ before)) };
+  said = said;
+}
+  where
+    none_some : None ≡ Some file → ⊥
+    none_some is = cc
 
 -- What is opened of the second, or can't be read, is so of the first.
 pub opened_before : (a b : Contents) (header : Header) (now : Contents) → FindsSame a b
     → b.images ≡ slice_set a.images first_gate 0 → IsOpened b header now → IsOpened a header now
 opened_before a b header now same images opened = record {
-  found = sym same.found ∙ opened.found;
+  found = sym same.files.found ∙ opened.found;
   whole = opened.whole;
   fields = opened.fields;
   images = opened.images ∙ ap (λ xs. slice_set xs first_gate 0) images ∙ set-set a.images first_gate 0 0;
@@ -48,7 +70,7 @@ opened_before a b header now same images opened = record {
 
 pub ends_before : (a b : Contents) → FindsSame a b → EndsReading b → EndsReading a
 ends_before a b same ends =
-    record { file = ends.file; found = sym same.found ∙ ends.found; unreadable = ends.unreadable }
+    record { file = ends.file; found = sym same.files.found ∙ ends.found; unreadable = ends.unreadable }
 
 -- ---- A byte that may be torn.
 
@@ -158,14 +180,11 @@ module _ (c : Contents) (chain : Chain) (ok : chain_of c.images (length c.db) �
   pub being_laid_found : (d : Contents) → IsBeingLaid d → FindsSame c d
   being_laid_found d being =
       let low = epoch_low c.images (length c.db) chain ok not_first in
-      record {
-        found = ap (recovered d.db) being.images
-            ∙ found_open c.images (length c.db) chain ok not_first d.db being.reaches
-            ∙ ap (λ file. Some (trimmed file)) (same_epoch_file c.images (length c.db) chain ok not_first d.db c.db
-            being.reaches low being.outside)
-            ∙ sym (found_open c.images (length c.db) chain ok not_first c.db low);
-        said = being.said;
-      }
+      finds_file c d _ (found_open c.images (length c.db) chain ok not_first c.db low)
+      (ap (recovered d.db) being.images ∙ found_open c.images (length c.db) chain ok not_first d.db being.reaches
+      ∙ ap (λ file. Some (trimmed file)) (same_epoch_file c.images (length c.db) chain ok not_first d.db c.db
+      being.reaches low being.outside))
+      being.said
 
   -- so it is while images are laid over it, and while it is cut then
   pub laid_being : (d : Contents) → Changes Db (LaysOver chain.images) c d → IsBeingLaid d
@@ -219,7 +238,5 @@ module _ (c : Contents) (chain : Chain) (ok : chain_of c.images (length c.db) �
       ∙ same_epoch_file c.images n chain ok not_first file c.db (omega arith) low
       (epoch_file_outside c.images n chain ok not_first c.db low)))
       (cases_eq (slice_index d.images 8) 0) in
-      record {
-        found = ap (λ db. recovered db d.images) is ∙ there ∙ sym (found_open c.images n chain ok not_first c.db low);
-        said = said;
-      }
+      finds_file c d (trimmed file) (found_open c.images n chain ok not_first c.db low)
+      (ap (λ db. recovered db d.images) is ∙ there) said

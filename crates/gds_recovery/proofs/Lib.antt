@@ -1,6 +1,7 @@
 pub mod CauseLemmas
 pub mod EpochLemmas
 pub mod FoundLemmas
+pub mod BarrierLemmas
 pub mod LayBackLemmas
 pub mod LayLemmas
 pub mod OpenGateLemmas

@@ -18,7 +18,7 @@ use Rattle.gds_images.specs.Recovered.{recovered, recovered_by, trimmed, trimmed
 use Rattle.gds_images.proofs.RestLemmas.{closed_chain, none_of, rest_found}
 use Rattle.gds_recovery.specs.Found.{EndsReading, FindsSame, IsOpened, IsUnreadable}
 use Rattle.gds_recovery.specs.Steps.{IsReadable}
-use Rattle.gds_recovery.proofs.FoundLemmas.{closed_again, closed_byte}
+use Rattle.gds_recovery.proofs.FoundLemmas.{closed_again, closed_byte, finds_file}
 
 -- ---- What is read of the header.
 
@@ -111,10 +111,8 @@ module _ (header : Header) (c : Contents) (closed : IsClosed c.images) (readable
       (λ i lt.
       let low : i < n = omega (arith, length-take n d.db) in
       get_or-take n d.db i 0 low ∙ is_cut.below i low (omega arith) ∙ sym (get_or-take n c.db i 0 low)) in
-      record {
-        found = rest_found (take n c.db) d (at_rest d (step.other Images (λ e. cc)) front) ∙ sym found_trimmed;
-        said = step.said;
-      }
+      finds_file c d (take n c.db) found_trimmed
+      (rest_found (take n c.db) d (at_rest d (step.other Images (λ e. cc)) front)) step.said
 
   pub trim_opened : IsOpened c header (with_file Db (take (file_length_of header) c.db) c)
   trim_opened = record {

@@ -11,9 +11,20 @@ use Rattle.gds_images.specs.Chain.{first_gate}
 use Rattle.gds_images.specs.Outcome.{IsClosed, IsWhole}
 use Rattle.gds_images.specs.Recovered.{recovered}
 
--- The next opening finds of the second what it finds of the first, byte for byte, and nothing more was said.
-pub record FindsSame (c d : Contents) : Type 0 where
+-- Both files hold what they held.
+pub record SameFiles (before after : Contents) : Type 0 where
+  pub db : after.db ≡ before.db
+  pub images : after.images ≡ before.images
+
+-- The next opening finds of the second two files what it finds of the first, byte for byte. Where it finds nothing,
+-- both are the same.
+pub record IsLeftAlone (c d : Contents) : Type 0 where
   pub found : recovered d.db d.images ≡ recovered c.db c.images
+  pub kept : recovered c.db c.images ≡ None → SameFiles c d
+
+-- The files are left alone, and nothing more was said.
+pub record FindsSame (c d : Contents) : Type 0 where
+  pub files : IsLeftAlone c d
   pub said : d.said ≡ c.said
 
 -- The database file is what was recovered, a whole database with this header, and the file of images is as before, with
@@ -47,11 +58,15 @@ pub record IsUnwritten {H : Type 0} (contents : H → Option Contents) (moment :
   pub told : contents new ≡ contents old
   pub crash : LeavesTheSame moment left_since old new
 
--- Since the first two calls, which make both files stable, each crash leaves what is found as before, and until then
--- nothing is new. Where there was no third call nothing is said of what comes after the second.
-pub record KeepsFound {H : Type 0} (moment : H → ℕ) (left_since : H → ℕ → Contents → Type 0) (old new : H)
-    (c : Contents) : Type 0 where
-  pub later : moment old ≤ moment new
-  pub since : counted (counted (moment old)) < moment new
-      → (t : ℕ) → counted (counted (moment old)) ≤ t → EachSince moment left_since new t (FindsSame c)
-  pub before : (t : ℕ) (d : Contents) → t ≤ moment old → left_since new t d → left_since old t d ⊎ FindsSame c d
+module _ {H : Type 0} (moment : H → ℕ) (left_since : H → ℕ → Contents → Type 0) where
+  -- The first two calls made both files stable. Each crash since then leaves files with P, and one since an earlier
+  -- moment leaves such files or what it left before.
+  pub record IsPastBarrier (old new : H) (P : Contents → Type 0) : Type 0 where
+    pub later : moment old ≤ moment new
+    pub made : counted (counted (moment old)) ≤ moment new
+    pub since : (t : ℕ) → counted (counted (moment old)) ≤ t → EachSince moment left_since new t P
+    pub before : (t : ℕ) (c : Contents) → t ≤ moment old → left_since new t c → left_since old t c ⊎ P c
+
+  -- So it is, or it ended early, for this reason, and crashes find no difference.
+  abbrev pub LeavesSinceBarrier : Type 0 → H → H → (Contents → Type 0) → Type 0
+  LeavesSinceBarrier early old new P = (early × LeavesTheSame moment left_since old new) ⊎ IsPastBarrier old new P

@@ -5,7 +5,7 @@ ghost use Rattle.host_model.specs.Moments.{EachLeft};
 ghost use Rattle.host_model.specs.Told.{TellsOn};
 ghost use Rattle.gds_header.specs.Kinds.{IsWithinLimits};
 ghost use Rattle.gds_recovery.specs.Errors.{HasCause};
-ghost use Rattle.gds_recovery.specs.Found.{FindsSame, HasNothingToDo, IsOpened, IsUnwritten, KeepsFound};
+ghost use Rattle.gds_recovery.specs.Found.{FindsSame, HasNothingToDo, IsOpened, IsUnwritten, LeavesSinceBarrier};
 ghost use Rattle.gds_recovery.specs.Steps.{StaysFound};
 
 use crate::closing::return_to_epoch;
@@ -36,9 +36,10 @@ pub fn recover<H: Host>(alloc: Global, host: &mut H) -> Result<Header, RecoveryE
     ensures stable { OnOk result (ForSome (H.told host.new)
         (λ now. EachLeft H.moment H.left_since host.new (λ d. d ≡ now))) }
 
-    // However it ends, the next opening finds the same, at each moment.
+    // However it ends, the next opening finds the same, at each moment. Files of which none is found stay as they are.
     ensures same { TellsOn (H.told host.old) (H.told host.new) FindsSame }
-    ensures any_moment { ForSome (H.told host.old) (KeepsFound H.moment H.left_since host.old host.new) }
+    ensures any_moment { ForSome (H.told host.old) (λ c. LeavesSinceBarrier H.moment H.left_since
+        (IsErrOf result RecoveryError.WriteFault) host.old host.new (FindsSame c)) }
 
     // Where memory runs out, or there is nothing to do, nothing is written.
     ensures memory { IsErrOf result RecoveryError.Memory

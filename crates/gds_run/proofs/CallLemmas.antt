@@ -1,5 +1,5 @@
 -- What a run on a database that was opened says of the whole call.
-use Rattle.std.proofs.Common.{◌≡◌, ℕ, ◌≤◌, ◌<◌, List, [], Option, None}
+use Rattle.std.proofs.Common.{◌≡◌, ◌⊎◌, ℕ, ◌≤◌, ◌<◌, List, [], Option, None}
 use Rattle.std.proofs.Common.{Some, refl, sym, ap, subst, ◌∙◌, inl, inr, ⊎_elim}
 use Rattle.std.proofs.Common.{arith}
 use Rattle.std.proofs.lemmas.Bool.{false≢true}
@@ -14,21 +14,24 @@ use Rattle.m_key.specs.Globals.{Globals}
 use Rattle.gds_images.specs.Recovered.{recovered}
 use Rattle.gds_lines.specs.declared.TheConstants.{INPUT_LIMIT}
 use Rattle.gds_lines.specs.LinesState.{Counts, IsAboveLimit, IsEnd, LinesState, Reads}
-use Rattle.gds_recovery.specs.Found.{FindsSame, KeepsFound}
+use Rattle.gds_recovery.specs.Found.{FindsSame, LeavesSinceBarrier}
+use Rattle.gds_recovery.proofs.BarrierLemmas.{barrier_past, barrier_weaker, past_more}
 use Rattle.gds_script.specs.Said.{IsAfterPrefix}
 use Rattle.gds_script.specs.Script.{script_of}
 use Rattle.gds_sound.specs.Sound.{HasOneMap}
 use Rattle.gds_units.specs.Opening.{IsStable, KeepsOpening}
 use Rattle.gds_units.specs.State.{UnitsState, image_of}
 use Rattle.gds_units.specs.declared.error.Returned.{Returned}
-use Rattle.gds_units.specs.declared.error.UnitError.TheVariants.{Memory}
+use Rattle.gds_units.specs.declared.error.UnitError.{UnitError}
+use Rattle.gds_units.specs.declared.error.UnitError.TheVariants as unit
+use Rattle.gds_run.specs.Errors.{opening_error}
 use Rattle.gds_run.specs.declared.error.RunError.{RunError}
 use Rattle.gds_run.specs.declared.error.RunError.TheVariants as error
-use Rattle.gds_run.specs.Ending.{EndsRun, EndsScript, HasCause, HasLinesCause, IsRefusal}
+use Rattle.gds_run.specs.Ending.{EndsRun, EndsScript, HasCause, HasLinesCause, IsRefusal, RunEndsEarly}
 use Rattle.gds_run.specs.Progress.{Ends, Origin, Progress}
-use Rattle.gds_run.specs.Run.{Breaks, FindsNoMap, IsRun, LeavesAlone, LeavesPrefixes, LeavesSinceBarrier, Opens}
-use Rattle.gds_run.proofs.OpeningLemmas.{begins, broken_run, each_same, ends_only, no_opening, only_opened, origin}
-use Rattle.gds_run.proofs.OpeningLemmas.{same_is_prefix, since_barrier, told_from, whole_run}
+use Rattle.gds_run.specs.Run.{Breaks, FindsNoMap, IsRun, LeavesAlone, LeavesPrefixes, Opens}
+use Rattle.gds_run.proofs.OpeningLemmas.{begins, broken_run, each_same, ends_only, origin, same_is_prefix}
+use Rattle.gds_run.proofs.OpeningLemmas.{told_from, whole_run}
 
 some_of : {A : Type 0} (o : Option A) → IsSome o → (x : A) × (o ≡ Some x)
 some_of None is = absurd (false≢true is)
@@ -148,7 +151,8 @@ module _ {H : Type 0} (told : H → Option Contents) (moment : H → ℕ) (left_
       }
 
   -- Files in which an opening finds no map aren't opened.
-  pub unopened_call : ForSome (told host) (λ c. FindsNoMap c → LeavesAlone moment left_since told host new c)
+  pub unopened_call : ForSome (told host)
+      (λ c. FindsNoMap c → LeavesAlone moment left_since told (RunEndsEarly r) host new c)
   unopened_call c tells none = let o = opened c tells in absurd (none o.file o.map o.opens)
 
   pub whole_call : ((other : H) (c : Contents) → told other ≡ Some c → left_since other (moment other) c)
@@ -169,40 +173,42 @@ module _ {H : Type 0} (told : H → Option Contents) (moment : H → ℕ) (left_
       (run_from c o.file o.map text tells o.opens o.is left_is))))
 
   pub crash_call : ((other : H) (t u : ℕ) (c : Contents) → t ≤ u → left_since other u c → left_since other t c)
-      → ForSome (told host) (KeepsFound moment left_since host base.host)
-      → ForSome left (λ text. ForSome (told host) (λ c. LeavesPrefixes moment left_since text c host new))
-  crash_call longer found text left_is c tells file m opens =
+      → ForSome (told host) (KeepsOpening moment left_since host (Ok base))
+      → ForSome left (λ text. ForSome (told host)
+      (λ c. LeavesPrefixes moment left_since (RunEndsEarly r) text c host new))
+  crash_call longer keeps text left_is c tells file m opens =
       let is : image_of base ≡ Some file = image c tells ∙ opens.recovers in
-      since_barrier told moment left_since longer host base.host new c (IsAfterPrefix (script_of text) m c.said)
-      (λ d again. same_is_prefix (script_of text) file m c d opens again) (found c tells)
-      (each_same told moment left_since host base.host c tells same stable)
+      inr (past_more longer (λ d again. same_is_prefix (script_of text) file m c d opens again)
+      (barrier_past (λ none. none) (keeps c tells))
       (ends_only told moment left_since (origin base.host file m c (script_of text)) new r
-      (run_from c file m text tells opens is left_is))
+      (run_from c file m text tells opens is left_is)))
+
+-- What ends an opening early ends a run so.
+early_error : (e : UnitError) → (e ≡ unit.Memory) ⊎ (e ≡ unit.WriteFault) → RunEndsEarly (Err (opening_error e))
+early_error e why =
+    let P : UnitError → Type 0 = λ e. RunEndsEarly (Err (opening_error e)) in
+    ⊎_elim (λ is. subst P (sym is) tt) (λ is. subst P (sym is) tt) why
 
 -- An opening that fails
 module _ {H : Type 0} (told : H → Option Contents) (moment : H → ℕ) (left_since : H → ℕ → Contents → Type 0) where
-  module _ (longer : (other : H) (t u : ℕ) (c : Contents) → t ≤ u → left_since other u c → left_since other t c)
-      (host : H) (returned : Returned H)
+  module _ (host : H) (returned : Returned H) (e : RunError) (is : e ≡ opening_error returned.error)
       (keeps : ForSome (told host) (KeepsOpening moment left_since host (Err returned))) where
     refused_leaves : (c : Contents) → told host ≡ Some c → (P : Contents → Type 0)
-        → ((d : Contents) → FindsSame c d → P d) → LeavesSinceBarrier moment left_since host returned.host P
+        → ((d : Contents) → FindsSame c d → P d)
+        → LeavesSinceBarrier moment left_since (RunEndsEarly (Err e)) host returned.host P
     refused_leaves c tells P so =
-        ⊎_elim
-        (λ (none : returned ≡ record { host = host; error = Memory }).
-        subst (λ (now : H). LeavesSinceBarrier moment left_since host now P)
-        (sym (ap (λ (back : Returned H). back.host) none)) (no_opening told moment left_since longer host P))
-        (λ (found : KeepsFound moment left_since host returned.host c).
-        only_opened told moment left_since longer host returned.host c P so found)
-        (keeps c tells)
+        barrier_weaker
+        (λ why. subst (λ e. RunEndsEarly (Err e)) (sym is) (early_error returned.error why)) so (keeps c tells)
 
     pub crash_refused : (left : Option (List ℕ)) → ForSome left (λ text. ForSome (told host)
-        (λ c. LeavesPrefixes moment left_since text c host returned.host))
+        (λ c. LeavesPrefixes moment left_since (RunEndsEarly (Err e)) text c host returned.host))
     crash_refused left text left_is c tells file m opens =
         refused_leaves c tells (IsAfterPrefix (script_of text) m c.said)
         (λ d again. same_is_prefix (script_of text) file m c d opens again)
 
     pub unopened_refused : TellsOn (told host) (told returned.host) FindsSame
-        → ForSome (told host) (λ c. FindsNoMap c → LeavesAlone moment left_since told host returned.host c)
+        → ForSome (told host) (λ c. FindsNoMap c
+        → LeavesAlone moment left_since told (RunEndsEarly (Err e)) host returned.host c)
     unopened_refused same c tells none = record {
       now = subst (λ (o : Option Contents). TellsOn o (told returned.host) FindsSame) tells same;
       crash = refused_leaves c tells (FindsSame c) (λ d again. again);

@@ -1,10 +1,8 @@
 -- How a run begins on a database that was opened, and what its end says of the whole call.
 use Rattle.std.proofs.Common.{◌≡◌, ℕ, ◌≤◌, ◌++◌, List, [], ◌∷◌, Option}
-use Rattle.std.proofs.Common.{None, Some, refl, sym, subst, ◌∙◌, inl, inr, ⊎_elim}
+use Rattle.std.proofs.Common.{None, Some, refl, sym, subst, ◌∙◌, inr}
 use Rattle.std.proofs.Common.{arith, append-nil}
 use Rattle.std.specs.Prelude.{IsSomeAnd, Contains, Result, Ok, Err, MatchResult}
-use Rattle.std.proofs.lemmas.Bool.{cases_lt}
-use Rattle.host_model.specs.Failures.{counted}
 use Rattle.host_model.specs.Files.{Contents}
 use Rattle.host_model.specs.Moments.{EachLeft, LeavesOnly}
 use Rattle.host_model.specs.Told.{TellsOn}
@@ -12,14 +10,14 @@ use Rattle.host_model.proofs.FrameLemmas.{TellsOn-some}
 use Rattle.host_model.proofs.MomentLemmas.{no_call}
 use Rattle.m_key.specs.Globals.{Globals}
 use Rattle.gds_images.specs.Recovered.{recovered}
-use Rattle.gds_recovery.specs.Found.{FindsSame, KeepsFound}
+use Rattle.gds_recovery.specs.Found.{FindsSame}
 use Rattle.gds_script.specs.Said.{AreAccepted, IsAfterPrefix}
 use Rattle.gds_script.specs.Script.{script_of, start_of}
 use Rattle.gds_units.specs.Opening.{IsStable}
 use Rattle.gds_units.specs.State.{UnitsState, image_of}
 use Rattle.gds_run.specs.Progress.{Ends, IsCutShort, IsWhole, Origin, Progress}
 use Rattle.gds_run.specs.declared.error.RunError.{RunError}
-use Rattle.gds_run.specs.Run.{Breaks, IsRun, LeavesPrefixes, LeavesSinceBarrier, Opens}
+use Rattle.gds_run.specs.Run.{Breaks, IsRun, Opens}
 
 -- what told before tells now, where that can be shown
 pub told_from : {A : Type 0} (a b : Option A) (R : A → A → Type 0)
@@ -43,7 +41,7 @@ same_is_prefix script image m c d opens same = record {
   durable = λ n has. absurd (omega (arith, has.1));
   finds = record {
     image = image;
-    recovers = same.found ∙ opens.recovers;
+    recovers = same.files.found ∙ opens.recovers;
     stands = opens.stands;
     said = same.said ∙ sym (append-nil c.said);
   };
@@ -95,7 +93,7 @@ module _ {H : Type 0} (told : H → Option Contents) (moment : H → ℕ) (left_
           has = record { kept = 0; durable = λ n has. absurd (omega (arith, has.1)); few = omega arith; is = refl };
           finds = record {
             image = image;
-            recovers = (each d left).found ∙ opens.recovers;
+            recovers = (each d left).files.found ∙ opens.recovers;
             stands = opens.stands;
             said = (each d left).said ∙ sym (append-nil c.said);
           };
@@ -103,42 +101,6 @@ module _ {H : Type 0} (told : H → Option Contents) (moment : H → ℕ) (left_
         only = no_call moment left_since base.host (IsAfterPrefix script m c.said)
             (λ d left. same_is_prefix script image m c d opens (each d left));
       }
-
-  -- What holds since the opening holds since its barrier, where that is said of the opening itself.
-  module _ (longer : (host : H) (t u : ℕ) (c : Contents) → t ≤ u → left_since host u c → left_since host t c) where
-    pub since_barrier : (old mid new : H) (c : Contents) (P : Contents → Type 0)
-        → ((d : Contents) → FindsSame c d → P d) → KeepsFound moment left_since old mid c
-        → EachLeft moment left_since mid (FindsSame c) → LeavesOnly moment left_since mid new P
-        → LeavesSinceBarrier moment left_since old new P
-    since_barrier old mid new c P so found each only = record {
-      later = omega (arith, found.later, only.later);
-      since = λ _ _ t from d left. ⊎_elim
-          (λ early. ⊎_elim
-          (λ was. so d (found.since (omega (arith, early, from)) t from d was)) (λ p. p)
-          (only.before t d (omega (arith, early)) left))
-          (λ late. only.each d (longer new (moment mid) t d late left))
-          (cases_lt t (moment mid));
-      before = λ t d le left. ⊎_elim
-          (λ was. ⊎_elim inl (λ same. inr (so d same)) (found.before t d le was)) inr
-          (only.before t d (omega (arith, le, found.later)) left);
-    }
-
-    -- An opening that fails leaves what was found.
-    pub only_opened : (old new : H) (c : Contents) (P : Contents → Type 0)
-        → ((d : Contents) → FindsSame c d → P d) → KeepsFound moment left_since old new c
-        → LeavesSinceBarrier moment left_since old new P
-    only_opened old new c P so found = record {
-      later = found.later;
-      since = λ _ past t from d left. so d (found.since past t from d left);
-      before = λ t d le left. ⊎_elim inl (λ same. inr (so d same)) (found.before t d le left);
-    }
-
-    pub no_opening : (host : H) (P : Contents → Type 0) → LeavesSinceBarrier moment left_since host host P
-    no_opening host P = record {
-      later = omega arith;
-      since = λ past _ t from d left. absurd (omega (arith, past));
-      before = λ t d le left. inl left;
-    }
 
   -- What the end of the run says of the whole call.
   pub whole_run : (now_left : (host : H) (c : Contents) → told host ≡ Some c → left_since host (moment host) c)

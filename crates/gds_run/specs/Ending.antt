@@ -1,5 +1,5 @@
 -- How a run ends, and why.
-use Rattle.std.specs.Prelude.{◌≡◌, ◌≢◌, ℕ, ◌<◌, ◌≤◌, Err, IfErr, List, OnOk, false, length, Option, None, Result}
+use Rattle.std.specs.Prelude.{◌≡◌, ◌≢◌, ℕ, ◌<◌, ◌≤◌, Err, IfErr, List, OnOk, false, length, Ok, Option, None, Result}
 use Rattle.std.specs.Option.{ForSome}
 use Rattle.host_model.specs.Failures.{Failures, NeverFell, Rose}
 use Rattle.host_model.specs.Files.{Contents}
@@ -77,3 +77,10 @@ abbrev pub IsRefusal : RunError → Type 0
 IsRefusal (BadImages at) = Unit {0}
 IsRefusal (Unsound faults) = Unit {0}
 IsRefusal other = ⊥
+
+-- A run may end before both files are stable for want of memory, or where that failed.
+abbrev pub RunEndsEarly : Result (Unit {0}) RunError → Type 0
+RunEndsEarly (Ok value) = ⊥
+RunEndsEarly (Err Memory) = Unit {0}
+RunEndsEarly (Err WriteFault) = Unit {0}
+RunEndsEarly (Err other) = ⊥

@@ -1,14 +1,12 @@
 -- What a run says, what it leaves of the files, and what a crash leaves on the way.
-use Rattle.std.specs.Prelude.{◌≡◌, ◌⊎◌, ℕ, ◌<◌, ◌≤◌, IsSomeAnd, List, [], ◌++◌, take, Option, Some}
+use Rattle.std.specs.Prelude.{◌≡◌, ◌⊎◌, ℕ, IsSomeAnd, List, [], ◌++◌, take, Option, Some}
 use Rattle.std.specs.Option.{ForSome}
-use Rattle.host_model.specs.Failures.{counted}
 use Rattle.host_model.specs.Files.{Contents}
-use Rattle.host_model.specs.Moments.{EachSince}
 use Rattle.host_model.specs.Told.{TellsOn}
 use Rattle.m_key.specs.Globals.{Globals}
 use Rattle.gds_base.specs.Finds.{Finds}
 use Rattle.gds_images.specs.Recovered.{recovered}
-use Rattle.gds_recovery.specs.Found.{FindsSame}
+use Rattle.gds_recovery.specs.Found.{FindsSame, LeavesSinceBarrier}
 use Rattle.gds_sound.specs.Stands.{StandsFor}
 use Rattle.gds_script.specs.declared.answer.Answer.{Answer}
 use Rattle.gds_script.specs.Answer.{answer_lines}
@@ -57,21 +55,15 @@ abbrev pub Breaks : List ℕ → Contents → Contents → Type 0
 Breaks input before now = (now.said ≡ before.said) ⊎ IsBrokenRun input before now
 
 module _ {H : Type 0} (moment : H → ℕ) (left_since : H → ℕ → Contents → Type 0) where
-  -- Since the first two calls, which make both files stable, each crash leaves files with P, and until then nothing
-  -- new. Where there was no third call nothing is said of what comes after the second.
-  pub record LeavesSinceBarrier (old new : H) (P : Contents → Type 0) : Type 0 where
-    pub later : moment old ≤ moment new
-    pub since : moment old < moment new → counted (counted (moment old)) < moment new
-        → (t : ℕ) → counted (counted (moment old)) ≤ t → EachSince moment left_since new t P
-    pub before : (t : ℕ) (c : Contents) → t ≤ moment old → left_since new t c → left_since old t c ⊎ P c
-
-  -- Where an opening found a map before, each crash leaves it after a prefix of the answered changes.
-  abbrev pub LeavesPrefixes : List ℕ → Contents → H → H → Type 0
-  LeavesPrefixes input before old new =
+  -- Where an opening found a map before, each crash since both files are stable leaves it after a prefix of the
+  -- answered changes; or the run ended before, for this reason.
+  abbrev pub LeavesPrefixes : Type 0 → List ℕ → Contents → H → H → Type 0
+  LeavesPrefixes early input before old new =
       (image : List ℕ) (m : Globals) → Opens before image m
-      → LeavesSinceBarrier old new (IsAfterPrefix (script_of input) m before.said)
+      → LeavesSinceBarrier moment left_since early old new (IsAfterPrefix (script_of input) m before.said)
 
-  -- Of the files the next opening finds the same, at the end and at each moment, and nothing was said.
-  pub record LeavesAlone (told : H → Option Contents) (old new : H) (before : Contents) : Type 0 where
+  -- Of the files the next opening finds the same, at the end and at each moment, those of which it finds nothing stay
+  -- as they are, and nothing was said.
+  pub record LeavesAlone (told : H → Option Contents) (early : Type 0) (old new : H) (before : Contents) : Type 0 where
     pub now : IsSomeAnd (told new) (FindsSame before)
-    pub crash : LeavesSinceBarrier old new (FindsSame before)
+    pub crash : LeavesSinceBarrier moment left_since early old new (FindsSame before)

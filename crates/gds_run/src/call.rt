@@ -3,7 +3,7 @@ ghost use Rattle.std.specs.Option.{ForSome};
 ghost use Rattle.host_model.specs.Told.{TellsOn};
 ghost use Rattle.gds_script.specs.Script.{script_of};
 ghost use Rattle.gds_recovery.specs.Found.{FindsSame};
-ghost use Rattle.gds_run.specs.Ending.{EndsRun, IsRefusal};
+ghost use Rattle.gds_run.specs.Ending.{EndsRun, IsRefusal, RunEndsEarly};
 ghost use Rattle.gds_run.specs.Progress.{Ends, Origin, Progress};
 ghost use Rattle.gds_run.specs.Run.{Breaks, FindsNoMap, IsRun, LeavesAlone, LeavesPrefixes};
 
@@ -36,10 +36,10 @@ pub fn run<H: Host, I: Source>(alloc: Global, host: H, input: I) -> Ran<H, I>
     ensures refused { IfErr result.result (λ error. IsRefusal error
         → TellsOn (H.told host) (H.told result.host) FindsSame) }
     ensures crash { ForSome (I.left input) (λ text. ForSome (H.told host) (λ c.
-        LeavesPrefixes H.moment H.left_since text c host result.host)) }
-    // Files that can't be opened are left alone, however it ends.
+        LeavesPrefixes H.moment H.left_since (RunEndsEarly result.result) text c host result.host)) }
+    // Files that can't be opened are left alone, however it ends, and stay as they are where nothing is recovered.
     ensures unopened { ForSome (H.told host) (λ c. FindsNoMap c
-        → LeavesAlone H.moment H.left_since H.told host result.host c) }
+        → LeavesAlone H.moment H.left_since H.told (RunEndsEarly result.result) host result.host c) }
 
     // Over any host and source.
     ensures ends { EndsRun H.told H.failures host result.host (I.left input) (I.left result.input)

@@ -8,7 +8,7 @@ use Rattle.gds_header.specs.Fields.{fields_of, file_length_of}
 use Rattle.gds_header.specs.declared.header.Header.{Header}
 use Rattle.gds_images.specs.Outcome.{IsClosed, IsWhole}
 use Rattle.gds_recovery.specs.Errors.{HasCause}
-use Rattle.gds_recovery.specs.Found.{KeepsFound}
+use Rattle.gds_recovery.specs.Found.{FindsSame, LeavesSinceBarrier}
 use Rattle.gds_recovery.specs.declared.error.RecoveryError.{RecoveryError}
 use Rattle.gds_recovery.specs.declared.error.RecoveryError.TheVariants as recovery
 use Rattle.gds_units.specs.State.{UnitsState, image_of}
@@ -37,12 +37,16 @@ abbrev pub host_after : {H : Type 0} → Result (UnitsState H) (Returned H) → 
 host_after (Ok units) = units.host
 host_after (Err returned) = returned.host
 
--- At each moment since the first two calls the next opening finds the same; or there was no call, since memory ran out.
+-- It may end before both files are stable for want of memory, or where that failed.
+abbrev pub OpeningEndsEarly : {H : Type 0} → Result (UnitsState H) (Returned H) → Type 0
+OpeningEndsEarly (Ok units) = ⊥
+OpeningEndsEarly (Err returned) = (returned.error ≡ answer.Memory) ⊎ (returned.error ≡ answer.WriteFault)
+
+-- At each moment since both files are stable the next opening finds the same.
 abbrev pub KeepsOpening : {H : Type 0} → (H → ℕ) → (H → ℕ → Contents → Type 0) → H
     → Result (UnitsState H) (Returned H) → Contents → Type 0
-KeepsOpening moment left_since host (Ok units) c = KeepsFound moment left_since host units.host c
-KeepsOpening moment left_since host (Err returned) c =
-    (returned ≡ record { host = host; error = answer.Memory }) ⊎ KeepsFound moment left_since host returned.host c
+KeepsOpening moment left_since host result c =
+    LeavesSinceBarrier moment left_since (OpeningEndsEarly result) host (host_after result) (FindsSame c)
 
 -- The database file is a whole database with this header, and the file of images is closed.
 pub record HoldsWhole (header : Header) (c : Contents) : Type 0 where

@@ -33,7 +33,7 @@ returns-clause-one_map g c =
 pub returns-clause-any_moment : goal.returns-clause-any_moment
 returns-clause-any_moment g c x tells =
     let h = g.H.Host in
-    opening_keeps h.told h.moment h.left_since g.met.H.Host.longer c.args.host c.in_ok-units.units.host
+    opening_keeps h.told h.moment h.left_since g.met.H.Host.longer c.args.host c.in_ok-units.units
     c.without_faults.result x tells (c.in_ok-units.ensures.any_moment x tells) c.in_ok-units.ensures.same
     c.in_ok-units.ensures.stable c.without_faults.ensures.crash
 

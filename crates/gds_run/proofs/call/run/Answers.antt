@@ -58,12 +58,12 @@ pub returns-in-Err-clause-crash : goal.returns-in-Err-clause-crash
 returns-in-Err-clause-crash g c =
     let h = g.H.Host in
     let e = c.in-Err.ensures in
-    crash_refused h.told h.moment h.left_since g.met.H.Host.longer c.args.host c.in-Err.returned e.any_moment
+    crash_refused h.told h.moment h.left_since c.args.host c.in-Err.returned c.into.result c.into.ensures e.any_moment
     (g.I.Source.left c.args.input)
 
 pub returns-in-Err-clause-unopened : goal.returns-in-Err-clause-unopened
 returns-in-Err-clause-unopened g c =
     let h = g.H.Host in
     let e = c.in-Err.ensures in
-    unopened_refused h.told h.moment h.left_since g.met.H.Host.longer c.args.host c.in-Err.returned e.any_moment
-    e.same
+    unopened_refused h.told h.moment h.left_since c.args.host c.in-Err.returned c.into.result c.into.ensures
+    e.any_moment e.same
