@@ -1,6 +1,7 @@
 -- What clauses see of links, of frames and of a walker.
 use Rattle.std.specs.Prelude.{List, map, flat_map, reverse}
 use Rattle.std.specs.Vec.Iter.{into_iter_items}
+use Rattle.gds_header.specs.declared.header.Header.{Header}
 use Rattle.integ_block.specs.Child.{child_of}
 use Rattle.integ_walk.specs.Link as walk
 use Rattle.integ_walk.specs.Link.{links_of}
@@ -19,9 +20,10 @@ links_in frame = links_of frame.path frame.block frame.level (map child_of (into
 unfoldable pub all_links : List Frame → List walk.Link
 all_links frames = flat_map links_in (reverse frames)
 
-abbrev pub state_of : Walker → State
-state_of w = record {
-  header = w.header.now;
+-- the state of a walk of a file with a header
+abbrev pub state_of : Header → Walker → State
+state_of h w = record {
+  header = h;
   used = w.used.bytes.items;
   count = w.faults;
   links = all_links w.frames.items;

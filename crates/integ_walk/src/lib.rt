@@ -51,7 +51,7 @@ pub fn walk<U: UnitSource, F: FaultSink>(
     ensures source { U.was_read units.old units.new }
 {
     let mut walker = Walker::new(alloc, header)?;
-    walker.begin(units, sink)?;
-    while walker.step(units, sink)? {}
+    walker.begin(header, units, sink)?;
+    while walker.step(header, units, sink)? {}
     Ok(walker.into_seen())
 }

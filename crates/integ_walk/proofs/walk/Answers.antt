@@ -1,5 +1,4 @@
 use Rattle.std.proofs.Common.{◌≤◌, ap, ◌∙◌, arith}
-use Rattle.gds_header.specs.declared.header.Header.{Header}
 use Rattle.gds_law.proofs.KeptLemmas.{some_kept, some_reached}
 use Rattle.gds_law.proofs.SinkLemmas.{OnErr-any}
 use Rattle.integ_walk.specs.BlockSet.{has_block}
@@ -29,9 +28,7 @@ loop-walker-preserved g c =
         arith,
         c.in_ok-step.ensures.buffer,
         c.loop-walker.invariant.buffer,
-        ap (λ (h : Header). h.block_size) c.in_ok-step.ensures.header,
       );
-      header = c.in_ok-step.ensures.header ∙ c.loop-walker.invariant.header;
       on = λ x tells kept reached ak ar.
           (c.in_ok-step.ensures.on x (c.loop-walker.invariant.image
           ∙ tells) kept reached (g.F.FaultSink.listed c.args.sink.now) ak ar
@@ -51,7 +48,7 @@ returns-clause-walked g c x tells =
     let now = g.F.FaultSink.listed c.step.new.sink in
     let on = (c.in_ok-step.ensures.on x (c.loop-walker.invariant.image ∙ tells) kept.0 reached.0 start kept.1 reached.1
     (c.loop-walker.invariant.on x tells kept.0 reached.0 kept.1 reached.1)).0 in
-    let end = on_end x kept.0 reached.0 kept.1 reached.1 start now (state_of c.step.new.self)
+    let end = on_end x kept.0 reached.0 kept.1 reached.1 start now (state_of c.args.header.now c.step.new.self)
     (c.in_ok-step.ensures.end c.if-branch.false) on in
     record {
       kept = kept.0;
@@ -66,8 +63,9 @@ returns-clause-walked g c x tells =
 pub returns-clause-few : goal.returns-clause-few
 returns-clause-few g c =
     let state = c.in_ok-step.ensures.state in
-    let size : most_of_block (state_of c.step.new.self).header ≤ 1495561 = omega (arith, state.limits.block_to) in
-    let blocks : (state_of c.step.new.self).header.total ≤ 1048576 =
+    let size : most_of_block (state_of c.args.header.now c.step.new.self).header ≤ 1495561 =
+    omega (arith, state.limits.block_to) in
+    let blocks : (state_of c.args.header.now c.step.new.self).header.total ≤ 1048576 =
     omega (arith, state.limits.total_to, state.limits.limit_to) in
     let most = mul-le-mul blocks size in
     omega (arith, c.into_seen.ensures.faults, state.few, most)

@@ -12,11 +12,11 @@ use Rattle.integ_walk.proofs.walker.Walker.begin.Goals as goal
 
 pub returns-clause-state : goal.returns-clause-state
 returns-clause-state g c =
-    let s = state_of c.args.self.now in
+    let s = state_of c.args.header.now c.args.self.now in
     let used = c.insert.new.self.bytes.items in
     let bytes = c.enter.new.self.block.items in
     on_ok c.enter.result _ _ c.enter.ensures.entered (λ e.
-    let first : state_of c.enter.new.self ≡ behind s directory_root [] bytes used =
+    let first : state_of c.args.header.now c.enter.new.self ≡ behind s directory_root [] bytes used =
     e ∙ ap (λ (p : Steps). entered (record s { used = used }) directory_root p bytes) c.new-path.ensures in
     subst IsState (sym first)
     (state_entered s directory_root [] bytes used
@@ -29,7 +29,7 @@ returns-clause-state g c =
 
 pub returns-clause-on : goal.returns-clause-on
 returns-clause-on g c x tells kept reached ak ar =
-    let s = state_of c.args.self.now in
+    let s = state_of c.args.header.now c.args.self.now in
     let used = c.insert.new.self.bytes.items in
     let old = g.F.FaultSink.listed c.args.sink.now in
     let new = g.F.FaultSink.listed c.enter.new.sink in
@@ -44,7 +44,7 @@ returns-clause-on g c x tells kept reached ak ar =
     let state = at_ok c.enter.result v _ e c.enter.ensures.entered
     ∙ (λ i. entered (record s { used = used }) directory_root (c.new-path.ensures i) (bytes i)) in
     let listed = at_ok c.enter.result v _ e told.all ∙ ap (λ fs. old ++ fs) due in
-    on_at x kept reached ak ar old _ new _ (state_of c.enter.new.self) listed state
+    on_at x kept reached ak ar old _ new _ (state_of c.args.header.now c.enter.new.self) listed state
     (on_root x kept reached ak ar old s used header c.requires.none c.insert.ensures.blocks c.requires.faults
     c.requires.links))
     (λ y e. on_rooting x kept reached ak ar old s used header c.requires.none c.insert.ensures.blocks c.requires.faults

@@ -23,25 +23,25 @@ use Rattle.integ_walk.proofs.walker.Walker.follow.Goals.{In_ok-enter}
 
 pub insert-is_new-requires : goal.insert-is_new-requires
 insert-is_new-requires g c =
-    let sound = next_sound (state_of c.args.self.now) (link_of c.args.link) c.requires.state in
+    let sound = next_sound (state_of c.args.header.now c.args.self.now) (link_of c.args.link) c.requires.state in
     omega (arith, sound.within, c.requires.state.room)
 
 pub into_at-requires : goal.into_at-requires
 into_at-requires g c =
     let link = link_of c.args.link in
-    let sound = next_sound (state_of c.args.self.now) link c.requires.state in
+    let sound = next_sound (state_of c.args.header.now c.args.self.now) link c.requires.state in
     omega (arith, sound.short, length-append link.path ((link.block, link.child.offset) ∷ []))
 
 pub enter-requires-clause-within : goal.enter-requires-clause-within
 enter-requires-clause-within g c =
-    let sound = next_sound (state_of c.args.self.now) (link_of c.args.link) c.requires.state in
+    let sound = next_sound (state_of c.args.header.now c.args.self.now) (link_of c.args.link) c.requires.state in
     omega (arith, sound.within, ap (λ v. (visit_of v).block) c.into_at.ensures.visit)
 
 -- ---- entering a block
 
 module _ (g : Over) (c : In_ok-enter g) where
   abbrev s : State
-  s = state_of c.args.self.now
+  s = state_of c.args.header.now c.args.self.now
 
   abbrev link : Link
   link = link_of c.args.link
@@ -58,7 +58,7 @@ module _ (g : Over) (c : In_ok-enter g) where
   visit : visit_of c.into_at.result.visit ≡ link.child.visit
   visit = ap visit_of c.into_at.ensures.visit
 
-  state : state_of c.enter.new.self ≡ behind s link.child.visit (path_to link) bytes used
+  state : state_of c.args.header.now c.enter.new.self ≡ behind s link.child.visit (path_to link) bytes used
   state = c.in_ok-enter.ensures.entered
       ∙ (λ i. entered (record s { used = used }) (visit i) (c.into_at.ensures.path i) bytes)
 
@@ -78,7 +78,7 @@ returns-in_ok-enter-clause-state g c = subst IsState (sym (state g c)) (step g c
 
 pub returns-in_ok-enter-clause-less : goal.returns-in_ok-enter-clause-less
 returns-in_ok-enter-clause-less g c =
-    let work : work_left (state_of c.enter.new.self)
+    let work : work_left (state_of c.args.header.now c.enter.new.self)
     ≡ work_left (behind (s g c) (link g c).child.visit (path_to (link g c)) (bytes g c) (used g c)) =
     ap work_left (state g c) in
     omega (arith, work, (step g c).1)
@@ -91,13 +91,13 @@ returns-in_ok-enter-clause-on g c x tells kept reached start ak ar on =
     let path = path_to (link g c) in
     let read : bytes g c ≡ block_of x v.block = c.in_ok-enter.ensures.read x tells
     ∙ ap (λ (w : law.Visit). block_of x w.block) (visit g c) in
-    let is : state_of c.enter.new.self ≡ behind (s g c) v path (block_of x v.block) (used g c) =
+    let is : state_of c.args.header.now c.enter.new.self ≡ behind (s g c) v path (block_of x v.block) (used g c) =
     state g c ∙ ap (λ b. behind (s g c) v path b (used g c)) read in
     let listed : new ≡ now ++ faults_of_block (s g c).header path v (block_of x v.block) =
     (c.in_ok-enter.ensures.told x tells).all
     ∙ (λ i. now
     ++ faults_of_block (s g c).header (c.into_at.ensures.path i) (visit g c i) (block_of x (visit g c i).block)) in (
-      on_at x kept reached ak ar start _ new _ (state_of c.enter.new.self) listed is
+      on_at x kept reached ak ar start _ new _ (state_of c.args.header.now c.enter.new.self) listed is
           (on_entered x kept reached ak ar start (s g c) (used g c) (c.requires.header x tells) now (link g c)
           c.insert-is_new.ensures.blocks (free g c) on),
       tt,
@@ -105,7 +105,7 @@ returns-in_ok-enter-clause-on g c x tells kept reached start ak ar on =
 
 pub returns-in_err-enter-clause-on : goal.returns-in_err-enter-clause-on
 returns-in_err-enter-clause-on g c x tells kept reached start ak ar on =
-    let s = state_of c.args.self.now in
+    let s = state_of c.args.header.now c.args.self.now in
     let link = link_of c.args.link in
     let used = c.insert-is_new.new.self.bytes.items in
     let now = g.F.FaultSink.listed c.args.sink.now in
@@ -126,26 +126,27 @@ returns-in_err-enter-clause-on g c x tells kept reached start ak ar on =
 -- ---- passing one
 
 module _ (g : Over) (c : goal.After-self-1 g) where
-  taken : has_block (state_of c.args.self.now).used (link_of c.args.link).child.visit.block ≡ true
+  taken : has_block (state_of c.args.header.now c.args.self.now).used (link_of c.args.link).child.visit.block ≡ true
   taken = not-false _ (sym c.insert-is_new.ensures.is_new ∙ c.if-is_new.false)
 
-  same : (b : ℕ) → has_block c.insert-is_new.new.self.bytes.items b ≡ has_block (state_of c.args.self.now).used b
-  same = with_same (state_of c.args.self.now).used c.insert-is_new.new.self.bytes.items
+  same : (b : ℕ) → has_block c.insert-is_new.new.self.bytes.items b
+      ≡ has_block (state_of c.args.header.now c.args.self.now).used b
+  same = with_same (state_of c.args.header.now c.args.self.now).used c.insert-is_new.new.self.bytes.items
       (link_of c.args.link).child.visit.block c.insert-is_new.ensures.blocks taken
 
 pub returns-in_ok-fault-clause-state : goal.returns-in_ok-fault-clause-state
 returns-in_ok-fault-clause-state g c =
-    (state_past (state_of c.args.self.now) (link_of c.args.link) c.insert-is_new.new.self.bytes.items (same g c)
-    c.insert-is_new.ensures.room c.requires.state).0
+    (state_past (state_of c.args.header.now c.args.self.now) (link_of c.args.link)
+    c.insert-is_new.new.self.bytes.items (same g c) c.insert-is_new.ensures.room c.requires.state).0
 
 pub returns-in_ok-fault-clause-less : goal.returns-in_ok-fault-clause-less
 returns-in_ok-fault-clause-less g c =
-    (state_past (state_of c.args.self.now) (link_of c.args.link) c.insert-is_new.new.self.bytes.items (same g c)
-    c.insert-is_new.ensures.room c.requires.state).1
+    (state_past (state_of c.args.header.now c.args.self.now) (link_of c.args.link)
+    c.insert-is_new.new.self.bytes.items (same g c) c.insert-is_new.ensures.room c.requires.state).1
 
 pub returns-in_ok-fault-clause-on : goal.returns-in_ok-fault-clause-on
 returns-in_ok-fault-clause-on g c x tells kept reached start ak ar on =
-    let s = state_of c.args.self.now in
+    let s = state_of c.args.header.now c.args.self.now in
     let link = link_of c.args.link in
     let now = g.F.FaultSink.listed c.args.sink.now in
     let new = g.F.FaultSink.listed c.fault.new.self in
@@ -163,4 +164,5 @@ returns-in_err-fault-clause-on g c x tells kept reached start ak ar on =
     let p = err_from_is_err_and c.from_residual-in_err-fault.result c.from_residual-in_err-fault.ensures.1 in
     only_err c.from_residual-in_err-fault.result p.0 _ _ p.1
     (subst (λ fs. IsCut start fs (tree_faults x kept reached)) (sym c.in_err-fault.ensures.err)
-    (on_front x kept reached ak ar start now (with_link (link_of c.args.link) (state_of c.args.self.now)) on))
+    (on_front x kept reached ak ar start now
+    (with_link (link_of c.args.link) (state_of c.args.header.now c.args.self.now)) on))

@@ -1,25 +1,15 @@
 use Rattle.std.proofs.Common.{◌≡◌, ℕ, ◌+◌, List, ◌++◌, length, take, ◌∙◌, sym, ap, subst, arith}
 use Rattle.std.specs.Prelude.{Option, IfSome}
 use Rattle.std.proofs.Math.Seq.{take-append_seam}
-use Rattle.host_model.specs.Units.{unit_bytes}
-use Rattle.gds_header.specs.declared.header.Header.{Header}
+use Rattle.host_model.specs.Units.{IsUnit, unit_bytes}
 use Rattle.integ_walk.proofs.ResultLemmas.{on_ok}
 use Rattle.gds_law.proofs.UnitLemmas.{unit_is}
-use Rattle.integ_walk.proofs.UnitLemmas.{is_unit}
 use Rattle.integ_walk.proofs.walker.Walker.read.Goals as goal
 
 pub unit-requires : goal.unit-requires
 unit-requires g c x tells =
-    let head = c.requires.header x tells in
-    is_unit x c.args.block (length c.deref_mut.result.now) head.readable
-    (omega (arith, c.requires.within, ap (λ (h : Header). h.total) head.same))
-    (omega (
-      arith,
-      c.requires.buffer,
-      c.deref_mut.ensures.len,
-      c.deref_mut.ensures.value,
-      ap (λ (h : Header). h.block_size) head.same,
-    ))
+    subst (IsUnit x (c.args.block + 1)) (omega (arith, c.deref_mut.ensures.len, c.deref_mut.ensures.value))
+    (c.requires.unit x tells)
 
 front : (n : ℕ) (out rest : List ℕ) → length out ≡ n → take n (out ++ rest) ≡ out
 front n out rest e = ap (λ k. take k (out ++ rest)) (sym e) ∙ take-append_seam out rest
