@@ -5,7 +5,9 @@ ghost use Rattle.gds_header.specs.Kinds.{IsWithinLimits};
 
 use crate::bench::Bench;
 use crate::sink::{Kept, with_room};
-use crate::texts::{add, add_named, add_pieces, add_word, begin_line, number, text, whether};
+use crate::texts::{
+    add, add_named, add_number, add_pieces, add_word, begin_line, number, text, whether,
+};
 use crate::trouble::Trouble;
 use crate::visits::{at, visit};
 use gds_header::{HEADER_LENGTH, Header};
@@ -68,18 +70,30 @@ pub(crate) fn listed(
         Ok(count) => add_named(alloc, &mut answer, b"faults", count)?,
         Err(error) => add_error(alloc, &mut answer, error)?,
     }
-    if sink.failures > 0 {
-        add_named(alloc, &mut answer, b"failures", sink.failures)?;
-    }
+    add_failures(alloc, &mut answer, sink.failures)?;
     Ok(answer)
+}
+
+/// Adds a line that says how often a sink or a file failed, where it did.
+pub(crate) fn add_failures(alloc: Global, answer: &mut Vec<u8>, count: u64) -> Result<(), Trouble> {
+    if count == 0 {
+        return Ok(());
+    }
+    begin_line(answer)?;
+    add_named(alloc, answer, b"failures", count)
 }
 
 fn add_error(alloc: Global, answer: &mut Vec<u8>, error: IntegError) -> Result<(), Trouble> {
     match error {
         IntegError::Memory => Err(Trouble::Memory),
-        IntegError::ReadFault => add(answer, b"read failed"),
-        IntegError::SayFault => add(answer, b"say failed"),
-        IntegError::Changed { unit } => add_named(alloc, answer, b"changed unit", u64::from(unit)),
+        IntegError::ReadFault => add(answer, b"stopped by a read"),
+        IntegError::SayFault => add(answer, b"stopped by the sink"),
+        IntegError::Changed { unit } => add_named(
+            alloc,
+            answer,
+            b"stopped by a change of unit",
+            u64::from(unit),
+        ),
     }
 }
 
@@ -91,7 +105,7 @@ fn add_fault(alloc: Global, answer: &mut Vec<u8>, fault: &Fault) -> Result<(), T
     for (block, offset) in fault.path.as_slice() {
         add_named(alloc, answer, b"path", u64::from(*block))?;
         add(answer, b":")?;
-        crate::texts::add_number(alloc, answer, u64::from(*offset))?;
+        add_number(alloc, answer, u64::from(*offset))?;
     }
     Ok(())
 }
@@ -107,7 +121,7 @@ fn children(alloc: Global, bench: &Bench) -> Result<Vec<u8>, Trouble> {
     let mut children = Vec::new(alloc);
     match block_faults(&bench.bytes, &at, &header, &mut sink, &mut children) {
         Ok(_) => children_text(alloc, &children),
-        Err(_) => text(alloc, b"say failed"),
+        Err(_) => text(alloc, b"stopped by the sink"),
     }
 }
 
@@ -163,7 +177,7 @@ fn counted(alloc: Global, bench: &Bench) -> Result<Vec<u8>, Trouble> {
     let mut children = Vec::new(alloc);
     match block_faults(&bench.bytes, &at, &header, &mut sink, &mut children) {
         Ok(_) => number(alloc, sink.count()),
-        Err(_) => text(alloc, b"say failed"),
+        Err(_) => text(alloc, b"stopped by the sink"),
     }
 }
 

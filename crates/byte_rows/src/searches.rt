@@ -1,7 +1,7 @@
 //! Searches in packed blocks, and edits of them.
 
 use crate::bench::Bench;
-use crate::texts::{add, add_named, pieces, text};
+use crate::texts::{add_named, pieces, text};
 use crate::trouble::Trouble;
 use crate::words::Words;
 use gds_block::BlockView;
@@ -45,7 +45,6 @@ fn found(alloc: Global, bench: &mut Bench, mut words: Words) -> Result<Vec<u8>, 
 
 fn place_text(alloc: Global, place: Place) -> Result<Vec<u8>, Trouble> {
     let mut answer = text(alloc, if place.is_equal { b"at" } else { b"before" })?;
-    add(&mut answer, b" ")?;
     add_named(alloc, &mut answer, b"offset", place.offset as u64)?;
     add_named(alloc, &mut answer, b"shared", place.shared as u64)?;
     add_named(alloc, &mut answer, b"next", place.next_shared as u64)?;

@@ -1,7 +1,7 @@
 //! The bench's file, the walk of its trees, and its INTEG.
 
 use crate::bench::Bench;
-use crate::faults::{listed, within_limits};
+use crate::faults::{add_failures, listed, within_limits};
 use crate::headers::written;
 use crate::sink::{Kept, with_room};
 use crate::texts::{add, hex};
@@ -73,7 +73,9 @@ fn walked(alloc: Global, bench: &Bench) -> Result<Vec<u8>, Trouble> {
     let mut units = units(alloc, bench)?;
     let mut sink = with_room(alloc, bench.room);
     let outcome = walk(alloc, &mut units, &header, &mut sink);
-    walk_text(alloc, &sink, outcome)
+    let mut answer = walk_text(alloc, &sink, outcome)?;
+    add_failures(alloc, &mut answer, units.failures)?;
+    Ok(answer)
 }
 
 fn walk_text(
@@ -97,5 +99,7 @@ fn judged(alloc: Global, bench: &Bench) -> Result<Vec<u8>, Trouble> {
     let mut units = units(alloc, bench)?;
     let mut sink = with_room(alloc, bench.room);
     let outcome = integ(alloc, &mut units, &mut sink);
-    listed(alloc, &sink, outcome)
+    let mut answer = listed(alloc, &sink, outcome)?;
+    add_failures(alloc, &mut answer, units.failures)?;
+    Ok(answer)
 }
