@@ -2,7 +2,6 @@ ghost use Rattle.std.specs.Prelude.{◌≡◌, ◌≤◌, [], ◌∷◌, length,
 ghost use Rattle.gds_block.specs.Item.{Item};
 ghost use Rattle.gds_pack.specs.Entry.{item, items};
 
-use fixtures::{FixtureError, block, star};
 use gds_block::BlockView;
 use gds_pack::{Entry, cut_to_fit, pack, packed_size, unpack};
 use m_key::join_key;
@@ -77,89 +76,6 @@ fn packs_and_unpacks_an_index_block(rt: HostRuntime) -> Result<(), Fail> {
     let block = BlockView::new(&INDEX).ok_or("a block")?;
     let found = unpack(rt.alloc(), &block)?.ok_or("its entries")?;
     assert_eq!(rt; found.as_slice(), list.as_slice());
-    Ok(())
-}
-
-#[test]
-fn reads_a_block_whose_records_can_be_read(rt: HostRuntime) -> Result<(), Fail> {
-    let rows = [
-        ("a count below the key before", 26, 1, true),
-        ("a count of the whole key before", 26, 3, false),
-        ("a count in the first record", 18, 1, false),
-        ("a key without an end", 22, 1, false),
-        ("a byte behind the last record", 4, 34, false),
-        ("the first record alone", 4, 24, true),
-        ("no record", 4, 16, true),
-        ("the same bytes above level 0", 3, 1, false),
-    ];
-    for (label, place, byte, is_read) in rows {
-        let mut bytes = DATA;
-        bytes[place] = byte;
-        let block = BlockView::new(&bytes).ok_or("a block")?;
-        let found = unpack(rt.alloc(), &block)?;
-        assert_eq!(rt; found.is_some(), is_read, "{label}");
-    }
-    Ok(())
-}
-
-#[test]
-fn an_index_block_has_pointers_and_a_star(rt: HostRuntime) -> Result<(), Fail> {
-    let key: &[u8] = b"A\0\0\x03\0\0\0";
-    let pointer: &[u8] = b"\x04\0\0\0";
-    let rows: [(&str, Result<[u8; 64], FixtureError>, bool); 9] = [
-        (
-            "a key and a star",
-            block(1, 1, &[(0, key), (0, pointer)]),
-            true,
-        ),
-        ("a star alone", star(1, 1, 2), true),
-        ("a star alone at level 7", star(7, 1, 2), true),
-        ("no record", block(1, 1, &[]), false),
-        ("no star", block(1, 1, &[(0, key)]), false),
-        (
-            "a star with a count",
-            block(1, 1, &[(0, key), (1, pointer)]),
-            false,
-        ),
-        (
-            "a star before the last",
-            block(1, 1, &[(0, pointer), (0, pointer)]),
-            false,
-        ),
-        (
-            "a rest of 3 bytes",
-            block(1, 1, &[(0, b"A\0\0\x03\0\0"), (0, pointer)]),
-            false,
-        ),
-        (
-            "a rest of 5 bytes",
-            block(1, 1, &[(0, b"A\0\0\x03\0\0\0\0"), (0, pointer)]),
-            false,
-        ),
-    ];
-    for (label, bytes, is_read) in rows {
-        let bytes = bytes?;
-        let block = BlockView::new(&bytes).ok_or("a block")?;
-        let found = unpack(rt.alloc(), &block)?;
-        assert_eq!(rt; found.is_some(), is_read, "{label}");
-    }
-    Ok(())
-}
-
-#[test]
-fn a_leaf_has_any_rests(rt: HostRuntime) -> Result<(), Fail> {
-    let rows: [(&str, &[u8], usize); 3] = [
-        ("no byte", b"A\0\0", 0),
-        ("a pointer's bytes", b"A\0\0\x03\0\0\0", 4),
-        ("more bytes", b"A\0\0\x03\0\0\0\0", 5),
-    ];
-    for (label, body, len) in rows {
-        let bytes = block::<64>(0, 1, &[(0, body)])?;
-        let block = BlockView::new(&bytes).ok_or("a block")?;
-        let found = unpack(rt.alloc(), &block)?.ok_or("its entries")?;
-        assert_eq!(rt; found.len(), 1, "{label}");
-        assert_eq!(rt; found[0].rest.len(), len, "{label}");
-    }
     Ok(())
 }
 

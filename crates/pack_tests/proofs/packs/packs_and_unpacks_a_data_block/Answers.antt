@@ -3,7 +3,7 @@ use Rattle.gds_block.specs.Item.{Item}
 use Rattle.m_key.specs.KeyEnd.{IsKey}
 use Rattle.gds_pack.specs.Packable.{ArePackable}
 use Rattle.gds_pack.specs.Packed.{packed_size}
-use Rattle.bytes_tests.proofs.packs.packs_and_unpacks_a_data_block.Goals as goal
+use Rattle.pack_tests.proofs.packs.packs_and_unpacks_a_data_block.Goals as goal
 
 first : IsKey (65 ∷ 0 ∷ 0 ∷ [])
 first = record { whole = refl; short = omega arith }

@@ -1,7 +1,7 @@
 use Rattle.std.proofs.Common.{ℕ, ◌≤◌, List, [], ◌∷◌, refl, sym, subst, arith}
 use Rattle.gds_block.specs.Item.{Item}
 use Rattle.gds_pack.specs.Cut.{CanBeCut}
-use Rattle.bytes_tests.proofs.packs.cuts_where_no_more_fits.Goals as goal
+use Rattle.pack_tests.proofs.packs.cuts_where_no_more_fits.Goals as goal
 
 abbrev list : List Item
 list = record { key = 65 ∷ 0 ∷ 0 ∷ []; rest = 120 ∷ [] }
