@@ -16,6 +16,7 @@ from dataclasses import dataclass
 from pathlib import Path
 
 import scripts
+import series
 from files import CLOSED, HEADER, bitmap, block, changed, header, place, pointer
 
 # the user that runs a call which root would pass, since root writes every file
@@ -120,6 +121,42 @@ NO_ENTRIES = bytes.fromhex("01000000100000000400000000000000")
 FULL = ["SET ^%c=1" % letter for letter in b"ABCDEFGHIJKLMNOP"]
 
 STORIES = {
+    "nodes have what was set last": [
+        MADE,
+        run(
+            ['SET ^A="x"', 'SET ^A(1)="y"', 'SET ^B(2)=""', 'SET ^A(1)="z"'],
+            *["OK"] * 4,
+            "EPOCH 4",
+        ),
+        SOUND,
+        run(
+            ["GET ^A", "GET ^A(1)", "GET ^B(2)", "GET ^A(2)", "GET ^B", "GET ^C"],
+            'VALUE "x"',
+            'VALUE "z"',
+            'VALUE ""',
+            *["UNDEF"] * 3,
+            "EPOCH 0",
+        ),
+    ],
+    "keys and values that are too long": [
+        MADE,
+        run(
+            [
+                'SET ^A("' + "q" * 59 + '")="v"',
+                'SET ^A("' + "q" * 60 + '")="v"',
+                'SET ^A("q")="' + "v" * 400 + '"',
+                'SET ^A("q")="' + "v" * 401 + '"',
+                'SET ^A("' + "q" * 60 + '")="' + "v" * 401 + '"',
+            ],
+            "OK",
+            "KEYTOOLONG 65",
+            "OK",
+            "VALUETOOLONG 401",
+            "KEYTOOLONG 65",
+            "EPOCH 2",
+        ),
+        SOUND,
+    ],
     "a new database": [Step(CREATE, said("CREATED 100"), check=is_new), SOUND],
     "a database is made once": [
         MADE,
@@ -470,6 +507,10 @@ def random_scripts_are_answered_as_by_a_map(program, folder):
 
 
 SCENES = {
+    **{
+        f"series, {name}": lambda program, folder, one=one: series.wrong_with_series(program, folder, one)
+        for name, one in series.SERIES.items()
+    },
     "random scripts": random_scripts_are_answered_as_by_a_map,
     "answers come at once": answers_come_at_once,
     "pieces do not matter": pieces_do_not_matter,
