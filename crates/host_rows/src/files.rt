@@ -1,6 +1,6 @@
 //! Commands on the files themselves, on what fails, and on what a task is given.
 
-use crate::bench::{Bench, Files, Saved, crashed, files_of, host_of, parts_of};
+use crate::bench::{Bench, Files, Saved, crashed, host_of, parts_of};
 use crate::texts::{add, add_word_number, hex, number, pieces, text};
 use crate::trouble::Trouble;
 use crate::words::Words;
@@ -22,6 +22,7 @@ pub(crate) fn change(
         b"keep" => keep(alloc, bench, words)?,
         b"save" => save(alloc, bench, words)?,
         b"load" => load(alloc, bench, words)?,
+        b"forget" => bench.saved.clear(),
         _ => return give(alloc, bench, word, words),
     }
     Ok(true)
@@ -54,8 +55,8 @@ pub(crate) fn tell(
     match word {
         b"sizes" => sizes(alloc, &bench.host).map(Some),
         b"said" => pieces(alloc, parts_of(&bench.host).2).map(Some),
-        b"show" => stretch(&bench.host, words, |bytes| pieces(alloc, bytes)).map(Some),
-        b"hex" => stretch(&bench.host, words, |bytes| hex(alloc, bytes)).map(Some),
+        b"show" => pieces(alloc, stretch(&bench.host, words)?).map(Some),
+        b"hex" => hex(alloc, stretch(&bench.host, words)?).map(Some),
         b"blocks" => blocks(alloc, &bench.host, words).map(Some),
         b"same" => same(alloc, bench, words).map(Some),
         _ => Ok(None),
@@ -122,10 +123,7 @@ fn save(alloc: Global, bench: &mut Bench, words: Words) -> Result<(), Trouble> {
 }
 
 fn load(alloc: Global, bench: &mut Bench, words: Words) -> Result<(), Trouble> {
-    let Some(saved) = bench.saved.iter().rev().find(|saved| saved.name.as_slice() == words.0) else {
-        return Err(Trouble::Words);
-    };
-    let files = saved.files.copy(alloc)?;
+    let files = saved_as(bench, words.0)?.copy(alloc)?;
     bench.hold(alloc, files);
     Ok(())
 }
@@ -199,17 +197,13 @@ fn file<'a>(host: &'a MemHost, word: &[u8]) -> Result<&'a [u8], Trouble> {
 }
 
 /// The bytes of a file from a place on, so many of them as the words say, or those that there are.
-fn stretch(
-    host: &MemHost,
-    words: Words,
-    shown: impl FnOnce(&[u8]) -> Result<Vec<u8>, Trouble>,
-) -> Result<Vec<u8>, Trouble> {
+fn stretch<'a>(host: &'a MemHost, words: Words) -> Result<&'a [u8], Trouble> {
     let mut rest = words;
     let file = file(host, rest.word())?;
     let at = rest.size()?;
     let length = rest.size()?;
     let behind = file.get(at..).unwrap_or(&[]);
-    shown(behind.get(..length).unwrap_or(behind))
+    Ok(behind.get(..length).unwrap_or(behind))
 }
 
 /// How many blocks behind the header begin with these bytes.
@@ -225,30 +219,42 @@ fn count_blocks(blocks: &[u8], size: usize, front: &[u8]) -> u64 {
     blocks.chunks(size.max(1)).filter(|block| block.starts_with(front)).count() as u64
 }
 
-/// Which saved files of this kind have the same bytes.
+/// Whether both files are those that were saved under a name.
 fn same(alloc: Global, bench: &Bench, words: Words) -> Result<Vec<u8>, Trouble> {
-    let files = files_of(alloc, &bench.host)?;
-    match words.0 {
-        b"db" => same_names(alloc, bench, |saved| saved.db.as_slice() == files.db.as_slice()),
-        b"images" => same_names(alloc, bench, |saved| {
-            saved.images.as_slice() == files.images.as_slice()
-        }),
-        _ => Err(Trouble::Words),
-    }
+    let saved = saved_as(bench, words.0)?;
+    let (db, images, _) = parts_of(&bench.host);
+    let answer: &[u8] = match (saved.db.as_slice() == db, saved.images.as_slice() == images) {
+        (true, true) => b"same",
+        (true, false) => b"other images",
+        (false, true) => b"other db",
+        (false, false) => b"both others",
+    };
+    text(alloc, answer)
 }
 
-/// The names of the saved files that pass a test, or that there is none.
-pub(crate) fn same_names(
-    alloc: Global,
-    bench: &Bench,
-    is_same: impl Fn(&Files) -> bool,
-) -> Result<Vec<u8>, Trouble> {
+/// The files that were saved under a name last.
+fn saved_as<'a>(bench: &'a Bench, name: &[u8]) -> Result<&'a Files, Trouble> {
+    let mut found = Err(Trouble::Words);
+    for saved in &bench.saved {
+        if saved.name.as_slice() == name {
+            found = Ok(&saved.files);
+        }
+    }
+    found
+}
+
+/// The names of the saved files whose database file has these bytes, or that there are none.
+pub(crate) fn same_names(alloc: Global, bench: &Bench, db: &[u8]) -> Result<Vec<u8>, Trouble> {
     let mut names = Vec::new(alloc);
     for saved in &bench.saved {
-        if is_same(&saved.files) {
+        if saved.files.db.as_slice() == db {
             add_name(&mut names, &saved.name)?;
         }
     }
+    or_none(alloc, names)
+}
+
+fn or_none(alloc: Global, names: Vec<u8>) -> Result<Vec<u8>, Trouble> {
     if names.is_empty() { text(alloc, b"none") } else { Ok(names) }
 }
 

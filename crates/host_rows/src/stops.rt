@@ -166,7 +166,7 @@ fn opened(
     let Performed { host, outcome } = perform(alloc, host, Task::Open, given)?;
     let files = files_of(alloc, &host)?;
     let found = if outcome.as_slice() == b"done".as_slice() {
-        same_names(alloc, bench, |saved| saved.db.as_slice() == files.db.as_slice())?
+        same_names(alloc, bench, &files.db)?
     } else {
         outcome
     };
