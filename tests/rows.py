@@ -20,7 +20,7 @@ SHOWN = 40
 
 def split(suite):
     """The program's name, and the lines that it has to say."""
-    first, *lines = suite.read_text(encoding="utf-8", newline="\n").split("\n")
+    first, *lines = suite.read_bytes().decode().split("\n")
     word, _, name = first.partition(" ")
     if word != "program" or not name.isidentifier():
         raise ValueError(f"{suite.name}: its first line names no program")

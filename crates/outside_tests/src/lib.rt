@@ -1,14 +1,8 @@
-//! Tests of the hosts, the sources and the reader of lines.
+//! Tests of real files and of standard input.
 #![tactic(auto)]
 
 #[cfg(test)]
-mod crashes;
-#[cfg(test)]
 mod files;
-#[cfg(test)]
-mod lines;
-#[cfg(test)]
-mod memory;
 #[cfg(test)]
 mod sources;
 #[cfg(test)]

@@ -1,7 +1,6 @@
-//! What sources give, and a read that comes in pieces.
+//! What standard input gives, and a read that comes in pieces.
 
 use host_file::{StdinSource, read_full_at};
-use host_mem::MemSource;
 use host_model::Source;
 use std::alloc::{AllocError, Allocator, Global};
 use std::io;
@@ -30,18 +29,6 @@ fn takes<S: Source>(alloc: Global, source: &mut S, times: usize) -> Result<Taken
         counts.push(taken.ok())?;
     }
     Ok(Taken { counts, bytes })
-}
-
-#[test]
-fn memory_gives_its_bytes_in_pieces(rt: HostRuntime) -> Result<(), Fail> {
-    let alloc = rt.alloc();
-    let failing = Vec::from_slice(alloc, &[2])?;
-    let mut source = MemSource::new(Vec::from_slice(alloc, b"abcdef")?, 3, failing);
-    let taken = takes(alloc, &mut source, 5)?;
-    let want = [Some(3), None, Some(3), Some(0), Some(0)];
-    assert_eq!(rt; taken.counts.as_slice(), want.as_slice());
-    assert_eq!(rt; taken.bytes.as_slice(), b"abc.def.........".as_slice());
-    Ok(())
 }
 
 /// A standard input that holds these bytes.
