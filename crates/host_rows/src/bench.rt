@@ -13,11 +13,14 @@ pub(crate) struct Files {
 
 impl Files {
     pub(crate) fn copy(&self, alloc: Global) -> Result<Files, AllocError> {
-        Ok(Files {
-            db: self.db.to_vec(alloc)?,
-            images: self.images.to_vec(alloc)?,
-        })
+        copied(alloc, &self.db, &self.images)
     }
+}
+
+fn copied(alloc: Global, db: &[u8], images: &[u8]) -> Result<Files, AllocError> {
+    let db = db.to_vec(alloc)?;
+    let images = images.to_vec(alloc)?;
+    Ok(Files { db, images })
 }
 
 /// Files under a name.
@@ -27,14 +30,12 @@ pub(crate) struct Saved {
     pub(crate) files: Files,
 }
 
-/// What commands work on.
+/// What a task is given beside its host.
 #[derive(Drop)]
-pub(crate) struct Bench {
-    /// The host, whose calls so far are counted.
-    pub(crate) host: MemHost,
+pub(crate) struct Given {
     /// The numbers of a database that is made.
     pub(crate) numbers: Header,
-    /// The bytes of the next run's input.
+    /// The bytes of the input.
     pub(crate) input: Vec<u8>,
     /// How many of them the source gives at a time.
     pub(crate) piece: usize,
@@ -42,12 +43,21 @@ pub(crate) struct Bench {
     pub(crate) takes: Vec<u64>,
     /// The script that asks what an opening found.
     pub(crate) questions: Vec<u8>,
+}
+
+/// What commands work on.
+#[derive(Drop)]
+pub(crate) struct Bench {
+    /// The host, whose calls so far are counted.
+    pub(crate) host: MemHost,
+    /// What the next task is given.
+    pub(crate) given: Given,
     /// Files that were saved. A new case keeps them.
     pub(crate) saved: Vec<Saved>,
 }
 
 /// The numbers of a database of 100 blocks of 1,024 bytes.
-const HUNDRED: Header = Header {
+pub(crate) const HUNDRED: Header = Header {
     block_size: 1024,
     total: 100,
     free: 0,
@@ -62,8 +72,19 @@ const HUNDRED: Header = Header {
 /// How many bytes a source gives at a time where nothing else is said.
 const PIECE: usize = 65_536;
 
+/// What a new case gives to its tasks.
+pub(crate) fn nothing_given(alloc: Global) -> Given {
+    Given {
+        numbers: HUNDRED,
+        input: Vec::new(alloc),
+        piece: PIECE,
+        takes: Vec::new(alloc),
+        questions: Vec::new(alloc),
+    }
+}
+
 /// A host of no files.
-fn empty_host(alloc: Global) -> MemHost {
+pub(crate) fn empty_host(alloc: Global) -> MemHost {
     MemHost::new(alloc, Vec::new(alloc), Vec::new(alloc), Vec::new(alloc))
 }
 
@@ -74,13 +95,22 @@ pub(crate) fn host_of(files: Files, failing: Vec<u64>) -> MemHost {
     MemHost::new(alloc, db, images, failing)
 }
 
+/// A host with these files, of which each call past so many fails.
+pub(crate) fn fused_host(alloc: Global, files: Files, calls: u64) -> MemHost {
+    let mut host = host_of(files, Vec::new(alloc));
+    host.fuse(calls);
+    host
+}
+
+/// The host, in whose place an empty one stands.
+pub(crate) fn take_host(alloc: Global, host: &mut MemHost) -> MemHost {
+    mem::replace(host, empty_host(alloc))
+}
+
 /// The files that a host holds.
 pub(crate) fn files_of(alloc: Global, host: &MemHost) -> Result<Files, AllocError> {
     let (db, images, _) = host.parts();
-    Ok(Files {
-        db: db.to_vec(alloc)?,
-        images: images.to_vec(alloc)?,
-    })
+    copied(alloc, db, images)
 }
 
 /// The database file, the file of images, and what was said.
@@ -93,41 +123,31 @@ pub(crate) fn crashed(host: MemHost, way: u64) -> Result<MemHost, AllocError> {
     host.crash(way)
 }
 
+/// Both files as a crash in this way leaves them.
+pub(crate) fn crashed_files(alloc: Global, host: MemHost, way: u64) -> Result<Files, AllocError> {
+    match crashed(host, way) {
+        Ok(left) => files_of(alloc, &left),
+        Err(error) => Err(error),
+    }
+}
+
 impl Bench {
     pub(crate) fn new(alloc: Global) -> Bench {
         Bench {
             host: empty_host(alloc),
-            numbers: HUNDRED,
-            input: Vec::new(alloc),
-            piece: PIECE,
-            takes: Vec::new(alloc),
-            questions: Vec::new(alloc),
+            given: nothing_given(alloc),
             saved: Vec::new(alloc),
         }
     }
+}
 
-    /// A new case: empty files, no input, and the numbers and pieces of a new bench.
-    pub(crate) fn clear(&mut self, alloc: Global) {
-        self.host = empty_host(alloc);
-        self.numbers = HUNDRED;
-        self.input = Vec::new(alloc);
-        self.piece = PIECE;
-        self.takes = Vec::new(alloc);
-        self.questions = Vec::new(alloc);
+/// The files that were saved under a name last.
+pub(crate) fn saved_as<'a>(saved: &'a [Saved], name: &[u8]) -> Result<&'a Files, Trouble> {
+    let mut found = Err(Trouble::Words);
+    for one in saved {
+        if one.name.as_slice() == name {
+            found = Ok(&one.files);
+        }
     }
-
-    /// The host, in whose place an empty one stands.
-    pub(crate) fn take_host(&mut self, alloc: Global) -> MemHost {
-        mem::replace(&mut self.host, empty_host(alloc))
-    }
-
-    /// A copy of both files.
-    pub(crate) fn files(&self, alloc: Global) -> Result<Files, Trouble> {
-        Ok(files_of(alloc, &self.host)?)
-    }
-
-    /// A new host with these files, of which no call fails.
-    pub(crate) fn hold(&mut self, alloc: Global, files: Files) {
-        self.host = host_of(files, Vec::new(alloc));
-    }
+    found
 }

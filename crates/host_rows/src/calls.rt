@@ -1,8 +1,10 @@
 //! Single calls of a host, and what is known of those that were made.
 
-use crate::bench::{Bench, Files, files_of};
+use crate::bench::{Files, files_of};
+use crate::files::file_no;
 use crate::texts::{add, add_number, add_word_number, number, pieces, text};
 use crate::trouble::Trouble;
+use crate::verbs::OnCalls;
 use crate::words::Words;
 use host_mem::{Call, MemHost, SureHost};
 use host_model::{FileNo, Host, HostFailed};
@@ -23,29 +25,18 @@ enum Step {
 /// The most bytes that are read in one call.
 const MOST: usize = 64;
 
-/// The file that a word names.
-pub(crate) fn file_no(word: &[u8]) -> Result<FileNo, Trouble> {
-    match word {
-        b"db" => Ok(FileNo::Db),
-        b"images" => Ok(FileNo::Images),
-        _ => Err(Trouble::Words),
-    }
-}
-
-/// Answers a command on calls, or nothing where the word is none of these.
 pub(crate) fn answer(
     alloc: Global,
-    bench: &mut Bench,
-    word: &[u8],
+    host: &mut MemHost,
+    verb: OnCalls,
     words: Words,
-) -> Result<Option<Vec<u8>>, Trouble> {
-    match word {
-        b"call" => call(alloc, &mut bench.host, words).map(Some),
-        b"sure" => sure(alloc, &bench.host, words).map(Some),
-        b"calls" => number(alloc, count_of(&bench.host)).map(Some),
-        b"reads" => number(alloc, reads_of(&bench.host)).map(Some),
-        b"list" => list(alloc, &bench.host).map(Some),
-        _ => Ok(None),
+) -> Result<Vec<u8>, Trouble> {
+    match verb {
+        OnCalls::Call => call(alloc, host, words),
+        OnCalls::Sure => sure(alloc, host, words),
+        OnCalls::Count => number(alloc, count_of(host)),
+        OnCalls::Reads => number(alloc, reads_of(host)),
+        OnCalls::List => list(alloc, host),
     }
 }
 
@@ -79,9 +70,23 @@ fn call(alloc: Global, host: &mut MemHost, words: Words) -> Result<Vec<u8>, Trou
 /// The same call of a host that never fails, with the same files.
 fn sure(alloc: Global, host: &MemHost, words: Words) -> Result<Vec<u8>, Trouble> {
     let step = step_of(alloc, words)?;
-    let mut sure = sure_host(files_of(alloc, host)?);
-    let mut answer = called(alloc, &mut sure, &step)?;
-    add_word_number(alloc, &mut answer, b", reads", sure_reads(&sure))?;
+    let files = files_of(alloc, host)?;
+    sure_called(alloc, sure_host(files), &step)
+}
+
+fn sure_called(alloc: Global, host: SureHost, step: &Step) -> Result<Vec<u8>, Trouble> {
+    let mut host = host;
+    let answer = called(alloc, &mut host, step);
+    with_reads(alloc, answer, sure_reads(&host))
+}
+
+fn with_reads(
+    alloc: Global,
+    answer: Result<Vec<u8>, Trouble>,
+    reads: u64,
+) -> Result<Vec<u8>, Trouble> {
+    let mut answer = answer?;
+    add_word_number(alloc, &mut answer, b", reads", reads)?;
     Ok(answer)
 }
 

@@ -1,11 +1,12 @@
 //! Files of images: reading one, and writing a group of it; and what an input is taken as.
 
-use crate::bench::Bench;
+use crate::bench::Given;
 use crate::lines::all_lines;
 use crate::outcomes::unit_outcome;
-use crate::tasks::{given_by, source_of};
+use crate::tasks::source_of;
 use crate::texts::{add, add_number, add_word_number, number, pieces, text};
 use crate::trouble::Trouble;
+use crate::verbs::OnParts;
 use crate::words::{Words, add_piece};
 use gds_images::{Chain, Group, ImagesError, Place, append_group, open_chain, open_gate};
 use gds_lines::LinesError;
@@ -14,19 +15,18 @@ use host_mem::{MemHost, MemSource};
 use host_model::{FileNo, Host, HostFailed, Source};
 use std::alloc::Global;
 
-/// Answers a command on images or inputs, or nothing where the word is none of these.
 pub(crate) fn answer(
     alloc: Global,
-    bench: &mut Bench,
-    word: &[u8],
+    host: &mut MemHost,
+    given: &Given,
+    verb: OnParts,
     words: Words,
-) -> Result<Option<Vec<u8>>, Trouble> {
-    match word {
-        b"chain" => chain(alloc, &mut bench.host, words).map(Some),
-        b"group" => group(alloc, &mut bench.host, words).map(Some),
-        b"lines" => lines(alloc, bench).map(Some),
-        b"take" => take(alloc, bench, words).map(Some),
-        _ => Ok(None),
+) -> Result<Vec<u8>, Trouble> {
+    match verb {
+        OnParts::Chain => chain(alloc, host, words),
+        OnParts::Group => group(alloc, host, words),
+        OnParts::Lines => lines(alloc, given),
+        OnParts::Take => take(alloc, given, words),
     }
 }
 
@@ -127,9 +127,8 @@ fn stored(
 }
 
 /// The lines of the input.
-fn lines(alloc: Global, bench: &Bench) -> Result<Vec<u8>, Trouble> {
-    let given = given_by(alloc, bench)?;
-    match all_lines(alloc, source_of(alloc, &given)?) {
+fn lines(alloc: Global, given: &Given) -> Result<Vec<u8>, Trouble> {
+    match all_lines(alloc, source_of(alloc, given)?) {
         Ok(lines) => told_lines(alloc, &lines),
         Err(LinesError::InputFault) => text(alloc, b"input fault"),
         Err(LinesError::InputTooLong) => text(alloc, b"input too long"),
@@ -149,11 +148,14 @@ fn told_lines(alloc: Global, lines: &[Vec<u8>]) -> Result<Vec<u8>, Trouble> {
 }
 
 /// Takes four bytes of the input, so often, each into a buffer full of dots.
-fn take(alloc: Global, bench: &Bench, words: Words) -> Result<Vec<u8>, Trouble> {
+fn take(alloc: Global, given: &Given, words: Words) -> Result<Vec<u8>, Trouble> {
     let mut rest = words;
     let times = rest.number()?;
-    let given = given_by(alloc, bench)?;
-    let mut source = source_of(alloc, &given)?;
+    taken(alloc, source_of(alloc, given)?, times)
+}
+
+fn taken(alloc: Global, source: MemSource, times: u64) -> Result<Vec<u8>, Trouble> {
+    let mut source = source;
     let mut answer = Vec::new(alloc);
     for _ in 0..times {
         add_taken(alloc, &mut answer, &mut source)?;

@@ -9,6 +9,8 @@ mod lines;
 mod outcomes;
 mod promise;
 mod rows;
+mod setting;
+mod showing;
 mod shrinking;
 mod stops;
 mod tables;
@@ -16,6 +18,7 @@ mod tasks;
 mod texts;
 mod trouble;
 mod units;
+mod verbs;
 mod words;
 
 use std::io;
@@ -23,7 +26,7 @@ use std::io;
 fn main(rt: HostRuntime) -> io::Result<()> {
     let mut bench = bench::Bench::new(rt.alloc());
     for line in rt.lines(rt.alloc()) {
-        let said = rows::said(rt.alloc(), &mut bench, line?.as_str())?;
+        let said = rows::said(rt.alloc(), &mut bench, line?.as_bytes())?;
         rt.write_all(&said)?;
     }
     Ok(())

@@ -1,82 +1,90 @@
 //! Rows: a command and its answer.
 
 use crate::bench::Bench;
-use crate::tasks::task_of;
-use crate::texts::{add, text};
+use crate::texts::text;
 use crate::trouble::Trouble;
+use crate::verbs::{Table, Verb, verb_of};
 use crate::words::Words;
-use crate::{calls, chains, files, promise, shrinking, stops, tables};
+use crate::{calls, chains, files, promise, setting, showing, shrinking, stops, tables};
 use std::alloc::{AllocError, Global};
 
 /// What stands before each line of an answer.
 const INDENT: &[u8] = b"  ";
 
 /// What is said for a line: the line, and its answer beneath it. An answer that stands in the text already is left out.
-pub(crate) fn said(alloc: Global, bench: &mut Bench, line: &str) -> Result<Vec<u8>, AllocError> {
-    let line = line.as_bytes();
-    let mut said = Vec::new(alloc);
+pub(crate) fn said(alloc: Global, bench: &mut Bench, line: &[u8]) -> Result<Vec<u8>, AllocError> {
     if line.starts_with(INDENT) {
-        return Ok(said);
+        return Ok(Vec::new(alloc));
     }
-    said.extend_from_slice(line)?;
-    said.push(b'\n')?;
     if line.is_empty() || line.starts_with(b"#") {
-        return Ok(said);
+        return beneath(alloc, line, b"");
     }
     match answer(alloc, bench, line) {
-        Ok(answer) => add_indented(&mut said, &answer)?,
-        Err(Trouble::Words) => add_indented(&mut said, b"no command")?,
-        Err(Trouble::Memory) => return Err(AllocError),
+        Ok(answer) => beneath(alloc, line, &answer),
+        Err(Trouble::Words) => beneath(alloc, line, b"no command"),
+        Err(Trouble::Memory) => Err(AllocError),
     }
-    Ok(said)
 }
 
-/// Adds the lines of an answer.
-fn add_indented(said: &mut Vec<u8>, answer: &[u8]) -> Result<(), AllocError> {
+/// A line and the lines of an answer beneath it.
+fn beneath(alloc: Global, line: &[u8], answer: &[u8]) -> Result<Vec<u8>, AllocError> {
+    let mut said = line.to_vec(alloc)?;
+    said.push(b'\n')?;
     if answer.is_empty() {
-        return Ok(());
+        return Ok(said);
     }
     for line in answer.split(|byte| *byte == b'\n') {
         said.extend_from_slice(INDENT)?;
         said.extend_from_slice(line)?;
         said.push(b'\n')?;
     }
-    Ok(())
+    Ok(said)
 }
 
 fn answer(alloc: Global, bench: &mut Bench, line: &[u8]) -> Result<Vec<u8>, Trouble> {
-    if let Some(task) = task_of(Words(line)) {
-        return tables::performed(alloc, bench, task);
-    }
     let mut words = Words(line);
-    let word = words.word();
-    if files::change(alloc, bench, word, words)? {
-        return text(alloc, b"");
+    match verb_of(words.word()) {
+        Some(verb) => answer_to(alloc, bench, verb, words),
+        None => Err(Trouble::Words),
     }
-    if let Some(answer) = files::tell(alloc, bench, word, words)? {
-        return Ok(answer);
-    }
-    if let Some(answer) = calls::answer(alloc, bench, word, words)? {
-        return Ok(answer);
-    }
-    if let Some(answer) = chains::answer(alloc, bench, word, words)? {
-        return Ok(answer);
-    }
-    whole_tables(alloc, bench, word, words)
 }
 
-/// Commands that perform a task often.
-fn whole_tables(
+fn answer_to(
     alloc: Global,
-    bench: &Bench,
-    word: &[u8],
+    bench: &mut Bench,
+    verb: Verb,
     words: Words,
 ) -> Result<Vec<u8>, Trouble> {
-    match word {
-        b"failures" => tables::failures(alloc, bench, words),
-        b"stops" => stops::stops(alloc, bench, words),
-        b"promise" => promise::promise(alloc, bench, words),
-        b"shrink" => shrinking::shrink(alloc, bench, words),
-        _ => Err(Trouble::Words),
+    match verb {
+        Verb::Files(verb) => {
+            let done = files::change(alloc, &mut bench.host, &mut bench.saved, verb, words);
+            nothing(alloc, done)
+        }
+        Verb::Given(verb) => {
+            let done = setting::give(alloc, &mut bench.host, &mut bench.given, verb, words);
+            nothing(alloc, done)
+        }
+        Verb::Shown(verb) => showing::shown(alloc, &bench.host, &bench.saved, verb, words),
+        Verb::Calls(verb) => calls::answer(alloc, &mut bench.host, verb, words),
+        Verb::Parts(verb) => chains::answer(alloc, &mut bench.host, &bench.given, verb, words),
+        Verb::Table(verb) => table(alloc, bench, verb, words),
+        Verb::Task(task) => tables::performed(alloc, &mut bench.host, &bench.given, task, words),
+    }
+}
+
+/// No answer, of a command that was done.
+fn nothing(alloc: Global, done: Result<(), Trouble>) -> Result<Vec<u8>, Trouble> {
+    match done {
+        Ok(()) => text(alloc, b""),
+        Err(trouble) => Err(trouble),
+    }
+}
+
+fn table(alloc: Global, bench: &Bench, verb: Table, words: Words) -> Result<Vec<u8>, Trouble> {
+    match verb {
+        Table::Failures => tables::failures(alloc, &bench.host, &bench.given, words),
+        Table::Stops => stops::stops(alloc, &bench.host, &bench.given, &bench.saved, words),
+        Table::Promise => promise::promise(alloc, &bench.host, &bench.given),
+        Table::Shrink => shrinking::shrink(alloc, &bench.host, &bench.given, words),
     }
 }

@@ -2,16 +2,16 @@
 
 ghost use Rattle.std.specs.Prelude.{◌≡◌, ◌≤◌, length};
 
-use crate::bench::{Bench, Files};
+use crate::bench::{Files, Given, files_of};
 use crate::outcomes::status_outcome;
-use crate::tasks::{line_of, source_of, given_by, Given};
+use crate::tasks::call_of;
 use crate::texts::add;
 use crate::trouble::Trouble;
 use crate::words::Words;
 use gds_cli::gds;
-use host_mem::SureHost;
+use host_mem::{MemHost, MemSource, SureHost};
 use host_model::{FileNo, Host, HostFailed};
-use std::alloc::Global;
+use std::alloc::{AllocError, Global};
 
 /// A host that tells nothing, and from a number of reads on gives no byte.
 #[derive(Drop)]
@@ -88,13 +88,18 @@ impl Host for Shrinking {
     }
 }
 
-/// Calls the words behind a number of reads on the bench's files, of which no byte comes from that read on.
-pub(crate) fn shrink(alloc: Global, bench: &Bench, words: Words) -> Result<Vec<u8>, Trouble> {
+/// Calls the words behind a number of reads on the host's files, of which no byte comes from that read on.
+pub(crate) fn shrink(
+    alloc: Global,
+    host: &MemHost,
+    given: &Given,
+    words: Words,
+) -> Result<Vec<u8>, Trouble> {
     let mut rest = words;
     let reads = rest.number()?;
-    let files = bench.files(alloc)?;
-    let given = given_by(alloc, bench)?;
-    called(alloc, made_of(files, reads), rest, &given)
+    let (line, source) = call_of(alloc, rest, given)?;
+    let files = files_of(alloc, host)?;
+    called(alloc, made_of(files, reads), line, source)
 }
 
 fn made_of(files: Files, reads: u64) -> Shrinking {
@@ -110,18 +115,25 @@ fn made_of(files: Files, reads: u64) -> Shrinking {
 fn called(
     alloc: Global,
     host: Shrinking,
-    words: Words,
-    given: &Given,
+    line: Vec<String>,
+    source: MemSource,
 ) -> Result<Vec<u8>, Trouble> {
-    let line = line_of(alloc, words)?;
-    let source = source_of(alloc, given)?;
     let ended = gds(alloc, &line, host, source);
-    let outcome = status_outcome(alloc, ended.status.code())?;
-    let mut answer = said_by(alloc, &ended.host)?;
-    add(&mut answer, &outcome)?;
-    Ok(answer)
+    with_status(alloc, said_by(alloc, &ended.host), ended.status.code())
 }
 
-fn said_by(alloc: Global, host: &Shrinking) -> Result<Vec<u8>, Trouble> {
-    Ok(host.files.parts().2.to_vec(alloc)?)
+fn said_by(alloc: Global, host: &Shrinking) -> Result<Vec<u8>, AllocError> {
+    host.files.parts().2.to_vec(alloc)
+}
+
+/// What was said, and the status.
+fn with_status(
+    alloc: Global,
+    said: Result<Vec<u8>, AllocError>,
+    code: u8,
+) -> Result<Vec<u8>, Trouble> {
+    let mut answer = said?;
+    let outcome = status_outcome(alloc, code)?;
+    add(&mut answer, &outcome)?;
+    Ok(answer)
 }

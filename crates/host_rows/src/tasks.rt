@@ -1,9 +1,11 @@
-//! What is done with a host that a command has: a run, a call by words, a creation, a recovery, calls on units.
+//! What is done with a host that a command has. No function here fails while it has a host: the host goes back with the
+//! outcome.
 
-use crate::bench::Bench;
+use crate::bench::Given;
 use crate::outcomes::{run_outcome, status_outcome, unit_outcome};
 use crate::trouble::Trouble;
 use crate::units;
+use crate::verbs::Task;
 use crate::words::{Words, add_piece};
 use gds_cli::gds;
 use gds_create::create_files;
@@ -15,71 +17,36 @@ use host_mem::{MemHost, MemSource};
 use std::alloc::{AllocError, Global};
 use std::str;
 
-/// A task, with the words behind it.
-#[derive(Clone, Copy)]
-pub(crate) enum Task<'a> {
-    Run,
-    Gds(Words<'a>),
-    Create,
-    Recover,
-    Open,
-    Units(Words<'a>),
-}
-
 /// A host after a task, and how the task ended.
 #[derive(Drop)]
 pub(crate) struct Performed {
     pub(crate) host: MemHost,
-    pub(crate) outcome: Vec<u8>,
+    pub(crate) outcome: Result<Vec<u8>, Trouble>,
 }
 
-/// What a task is given beside its host.
-#[derive(Drop)]
-pub(crate) struct Given {
-    pub(crate) numbers: Header,
-    pub(crate) input: Vec<u8>,
-    pub(crate) piece: usize,
-    pub(crate) takes: Vec<u64>,
-}
-
-/// What the bench gives to a task.
-pub(crate) fn given_by(alloc: Global, bench: &Bench) -> Result<Given, AllocError> {
-    Ok(Given {
-        numbers: bench.numbers,
-        input: bench.input.to_vec(alloc)?,
-        piece: bench.piece,
-        takes: bench.takes.to_vec(alloc)?,
-    })
-}
-
-/// The task that these words name.
-pub(crate) fn task_of(words: Words) -> Option<Task> {
-    let mut rest = words;
-    match rest.word() {
-        b"run" => Some(Task::Run),
-        b"gds" => Some(Task::Gds(rest)),
-        b"create" => Some(Task::Create),
-        b"recover" => Some(Task::Recover),
-        b"open" => Some(Task::Open),
-        b"units" => Some(Task::Units(rest)),
-        _ => None,
-    }
-}
-
-/// Performs a task.
+/// Performs a task with the words behind it.
 pub(crate) fn perform(
     alloc: Global,
     host: MemHost,
     task: Task,
+    words: Words,
     given: &Given,
-) -> Result<Performed, Trouble> {
+) -> Performed {
     match task {
         Task::Run => perform_run(alloc, host, given),
-        Task::Gds(words) => perform_gds(alloc, host, words, given),
+        Task::Gds => perform_gds(alloc, host, words, given),
         Task::Create => perform_creation(alloc, host, &given.numbers),
         Task::Recover => perform_recovery(alloc, host),
         Task::Open => perform_opening(alloc, host),
-        Task::Units(words) => units::perform(alloc, host, words, &given.numbers),
+        Task::Units => units::perform(alloc, host, words, &given.numbers),
+    }
+}
+
+/// A task that can't be begun.
+fn refused(host: MemHost, trouble: Trouble) -> Performed {
+    Performed {
+        host,
+        outcome: Err(trouble),
     }
 }
 
@@ -91,34 +58,49 @@ pub(crate) fn source_of(alloc: Global, given: &Given) -> Result<MemSource, Alloc
     Ok(MemSource::new(input, if piece > 0 { piece } else { 1 }, takes))
 }
 
-fn perform_run(alloc: Global, host: MemHost, given: &Given) -> Result<Performed, Trouble> {
-    let source = source_of(alloc, given)?;
-    let ran = run(alloc, host, source);
-    let outcome = run_outcome(alloc, ran.result)?;
-    Ok(Performed {
-        host: ran.host,
-        outcome,
-    })
+fn perform_run(alloc: Global, host: MemHost, given: &Given) -> Performed {
+    match source_of(alloc, given) {
+        Ok(source) => run_on(alloc, host, source),
+        Err(_) => refused(host, Trouble::Memory),
+    }
 }
 
-fn perform_gds(
+fn run_on(alloc: Global, host: MemHost, source: MemSource) -> Performed {
+    let ran = run(alloc, host, source);
+    Performed {
+        host: ran.host,
+        outcome: run_outcome(alloc, ran.result),
+    }
+}
+
+fn perform_gds(alloc: Global, host: MemHost, words: Words, given: &Given) -> Performed {
+    match call_of(alloc, words, given) {
+        Ok((line, source)) => gds_on(alloc, host, line, source),
+        Err(trouble) => refused(host, trouble),
+    }
+}
+
+/// The words of a call, and its input.
+pub(crate) fn call_of(
     alloc: Global,
-    host: MemHost,
     words: Words,
     given: &Given,
-) -> Result<Performed, Trouble> {
+) -> Result<(Vec<String>, MemSource), Trouble> {
     let line = line_of(alloc, words)?;
     let source = source_of(alloc, given)?;
+    Ok((line, source))
+}
+
+fn gds_on(alloc: Global, host: MemHost, line: Vec<String>, source: MemSource) -> Performed {
     let ended = gds(alloc, &line, host, source);
-    let outcome = status_outcome(alloc, ended.status.code())?;
-    Ok(Performed {
+    Performed {
         host: ended.host,
-        outcome,
-    })
+        outcome: status_outcome(alloc, ended.status.code()),
+    }
 }
 
 /// The words of a call: bare ones, and such in quotes. A piece behind `+` goes on with the word before it.
-pub(crate) fn line_of(alloc: Global, words: Words) -> Result<Vec<String>, Trouble> {
+fn line_of(alloc: Global, words: Words) -> Result<Vec<String>, Trouble> {
     let mut rest = words;
     let mut line: Vec<String> = Vec::new(alloc);
     for _ in 0..words.0.len() {
@@ -130,18 +112,26 @@ pub(crate) fn line_of(alloc: Global, words: Words) -> Result<Vec<String>, Troubl
 }
 
 fn add_to_line(alloc: Global, line: &mut Vec<String>, word: &[u8]) -> Result<(), Trouble> {
-    match word.split_first() {
-        Some((b'+', piece)) => match line.last_mut() {
-            Some(last) => Ok(last.push_str(piece_text(alloc, piece)?.as_str())?),
-            None => Err(Trouble::Words),
-        },
-        Some((b'\'' | b'"', _)) => push_word(line, piece_text(alloc, word)?),
+    match word.first() {
+        Some(b'+') => go_on(line, piece_text(alloc, word.get(1..).unwrap_or(&[]))?),
+        Some(b'\'' | b'"') => push_word(line, piece_text(alloc, word)?),
         _ => push_word(line, text_of(alloc, word)?),
     }
 }
 
+/// Goes on with the last word.
+fn go_on(line: &mut Vec<String>, text: String) -> Result<(), Trouble> {
+    match line.last_mut() {
+        Some(last) => Ok(last.push_str(text.as_str())?),
+        None => Err(Trouble::Words),
+    }
+}
+
 fn push_word(line: &mut Vec<String>, word: String) -> Result<(), Trouble> {
-    line.push(word).map_err(|_| Trouble::Memory)
+    match line.push(word) {
+        Ok(()) => Ok(()),
+        Err(_) => Err(Trouble::Memory),
+    }
 }
 
 fn piece_text(alloc: Global, piece: &[u8]) -> Result<String, Trouble> {
@@ -164,36 +154,33 @@ pub(crate) fn header_bytes(numbers: &Header) -> [u8; HEADER_LENGTH] {
     bytes
 }
 
-fn perform_creation(
-    alloc: Global,
-    host: MemHost,
-    numbers: &Header,
-) -> Result<Performed, Trouble> {
+fn perform_creation(alloc: Global, host: MemHost, numbers: &Header) -> Performed {
     let mut host = host;
-    let result = created(alloc, &mut host, numbers)?;
-    let outcome = unit_outcome(alloc, result)?;
-    Ok(Performed { host, outcome })
+    let outcome = match created(alloc, &mut host, numbers) {
+        Some(ended) => unit_outcome(alloc, ended),
+        None => Err(Trouble::Words),
+    };
+    Performed { host, outcome }
 }
 
-fn created(
-    alloc: Global,
-    host: &mut MemHost,
-    numbers: &Header,
-) -> Result<Result<(), UnitError>, Trouble> {
+/// Makes the files, where the numbers may stand in a header.
+fn created(alloc: Global, host: &mut MemHost, numbers: &Header) -> Option<Result<(), UnitError>> {
     let Ok(header) = Header::read(&header_bytes(numbers)) else {
-        return Err(Trouble::Words);
+        return None;
     };
     match create_files(alloc, host, &header) {
-        Ok(_) => Ok(Ok(())),
-        Err(error) => Ok(Err(UnitError::from(error))),
+        Ok(_) => Some(Ok(())),
+        Err(error) => Some(Err(UnitError::from(error))),
     }
 }
 
-fn perform_recovery(alloc: Global, host: MemHost) -> Result<Performed, Trouble> {
+fn perform_recovery(alloc: Global, host: MemHost) -> Performed {
     let mut host = host;
-    let result = recovered(alloc, &mut host);
-    let outcome = unit_outcome(alloc, result)?;
-    Ok(Performed { host, outcome })
+    let ended = recovered(alloc, &mut host);
+    Performed {
+        host,
+        outcome: unit_outcome(alloc, ended),
+    }
 }
 
 fn recovered(alloc: Global, host: &mut MemHost) -> Result<(), UnitError> {
@@ -203,10 +190,12 @@ fn recovered(alloc: Global, host: &mut MemHost) -> Result<(), UnitError> {
     }
 }
 
-fn perform_opening(alloc: Global, host: MemHost) -> Result<Performed, Trouble> {
-    let (host, result) = opened(alloc, host);
-    let outcome = unit_outcome(alloc, result)?;
-    Ok(Performed { host, outcome })
+fn perform_opening(alloc: Global, host: MemHost) -> Performed {
+    let (host, ended) = opened(alloc, host);
+    Performed {
+        host,
+        outcome: unit_outcome(alloc, ended),
+    }
 }
 
 fn opened(alloc: Global, host: MemHost) -> (MemHost, Result<(), UnitError>) {

@@ -42,7 +42,10 @@ const DIGITS: [u8; 16] = *b"0123456789ABCDEF";
 
 /// A byte as two hexadecimal digits.
 fn add_byte(answer: &mut Vec<u8>, byte: u8) -> Result<(), Trouble> {
-    let pair = [DIGITS[usize::from(byte >> 4)], DIGITS[usize::from(byte & 15)]];
+    let pair = [
+        DIGITS[usize::from(byte >> 4)],
+        DIGITS[usize::from(byte & 15)],
+    ];
     add(answer, &pair)
 }
 

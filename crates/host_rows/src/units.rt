@@ -18,57 +18,45 @@ use std::alloc::{AllocError, Global};
 
 /// Makes a database or opens it, and makes the calls behind that. Its outcome is that of each, or that of the first
 /// where it fails.
-pub(crate) fn perform(
-    alloc: Global,
-    host: MemHost,
-    words: Words,
-    numbers: &Header,
-) -> Result<Performed, Trouble> {
+pub(crate) fn perform(alloc: Global, host: MemHost, words: Words, numbers: &Header) -> Performed {
     let (first, calls) = split_at_byte(words.0, b',');
-    let begun = match first {
-        b"create" => created(alloc, host, numbers)?,
-        b"open" => Units::open(alloc, host),
-        _ => return Err(Trouble::Words),
+    if first == b"open".as_slice() {
+        return begun(alloc, Units::open(alloc, host), calls);
+    }
+    let Ok(header) = Header::read(&header_bytes(numbers)) else {
+        return Performed {
+            host,
+            outcome: Err(Trouble::Words),
+        };
     };
+    begun(alloc, Units::create(alloc, host, &header), calls)
+}
+
+fn begun(
+    alloc: Global,
+    begun: Result<Units<MemHost>, Returned<MemHost>>,
+    calls: &[u8],
+) -> Performed {
     match begun {
         Ok(units) => on_units(alloc, units, calls),
-        Err(Returned { host, error }) => {
-            let outcome = unit_outcome(alloc, Err(error))?;
-            Ok(Performed { host, outcome })
-        }
+        Err(Returned { host, error }) => Performed {
+            host,
+            outcome: unit_outcome(alloc, Err(error)),
+        },
     }
 }
 
-fn created(
-    alloc: Global,
-    host: MemHost,
-    numbers: &Header,
-) -> Result<Result<Units<MemHost>, Returned<MemHost>>, Trouble> {
-    let Ok(header) = Header::read(&header_bytes(numbers)) else {
-        return Err(Trouble::Words);
-    };
-    Ok(Units::create(alloc, host, &header))
-}
-
-fn on_units(
-    alloc: Global,
-    units: Units<MemHost>,
-    calls: &[u8],
-) -> Result<Performed, Trouble> {
+fn on_units(alloc: Global, units: Units<MemHost>, calls: &[u8]) -> Performed {
     let mut units = units;
-    let outcome = outcomes(alloc, &mut units, calls)?;
-    Ok(Performed {
+    let outcome = outcomes(alloc, &mut units, calls);
+    Performed {
         host: units.into_host(),
         outcome,
-    })
+    }
 }
 
 /// How each call ended.
-fn outcomes(
-    alloc: Global,
-    units: &mut Units<MemHost>,
-    calls: &[u8],
-) -> Result<Vec<u8>, Trouble> {
+fn outcomes(alloc: Global, units: &mut Units<MemHost>, calls: &[u8]) -> Result<Vec<u8>, Trouble> {
     let mut outcomes = text(alloc, b"done")?;
     let mut rest = calls;
     for _ in 0..calls.len() {
@@ -82,11 +70,7 @@ fn outcomes(
     Ok(outcomes)
 }
 
-fn outcome_of(
-    alloc: Global,
-    units: &mut Units<MemHost>,
-    words: Words,
-) -> Result<Vec<u8>, Trouble> {
+fn outcome_of(alloc: Global, units: &mut Units<MemHost>, words: Words) -> Result<Vec<u8>, Trouble> {
     let mut rest = words;
     match rest.word() {
         b"length" => told_length(alloc, length(units)),

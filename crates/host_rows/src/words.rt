@@ -92,9 +92,15 @@ pub(crate) fn decimal(digits: &[u8]) -> Option<u64> {
         if !digit.is_ascii_digit() {
             return None;
         }
-        number = number.checked_mul(10)?.checked_add(u64::from(*digit - b'0'))?;
+        number = number
+            .checked_mul(10)?
+            .checked_add(u64::from(*digit - b'0'))?;
     }
-    if digits.is_empty() { None } else { Some(number) }
+    if digits.is_empty() {
+        None
+    } else {
+        Some(number)
+    }
 }
 
 /// The place of a byte.
