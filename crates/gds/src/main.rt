@@ -2,7 +2,7 @@
 #![tactic(auto)]
 
 use gds_cli::{Status, gds};
-use host_file::{FileHost, StdinSource};
+use host_file::{FileHost, StdinSource, without_links};
 use std::alloc::AllocError;
 use std::fs::File;
 use std::process::ExitCode;
@@ -10,6 +10,8 @@ use std::{env, io};
 
 /// The exit status where the arguments can't be had, as where one isn't UTF-8.
 const NO_ARGUMENTS: u8 = 24;
+/// The exit status where `/dev/null` can't be opened three times.
+const NO_STANDARD: u8 = 25;
 
 /// The command line, without the program's own name.
 fn arguments(rt: &HostRuntime) -> Option<Vec<String>> {
@@ -20,9 +22,10 @@ fn arguments(rt: &HostRuntime) -> Option<Vec<String>> {
     Some(all)
 }
 
-/// Runs the words on the files at `path`.
+/// Runs the words on the file that `path` leads to, and on the one beside that.
 fn run(rt: &HostRuntime, path: &str, words: &[String]) -> Result<u8, AllocError> {
-    let host = FileHost::new(rt, rt.alloc(), path)?;
+    let path = without_links(rt, rt.alloc(), path)?;
+    let host = FileHost::new(rt, rt.alloc(), path.as_str())?;
     let input = StdinSource::new(rt);
     Ok(gds(rt.alloc(), words, host, input).status.code())
 }
@@ -37,7 +40,9 @@ fn hold_standard(rt: &HostRuntime) -> io::Result<[File; 3]> {
 }
 
 fn main(rt: HostRuntime) -> ExitCode {
-    let _held = hold_standard(&rt);
+    let Ok(_held) = hold_standard(&rt) else {
+        return ExitCode::from(NO_STANDARD);
+    };
     let Some(all) = arguments(&rt) else {
         return ExitCode::from(NO_ARGUMENTS);
     };

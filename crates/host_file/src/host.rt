@@ -16,8 +16,11 @@ use std::rt::Files;
 
 /// A host over the file at a path, the file of before images beside it, and standard output.
 ///
-/// The file of before images has the same path with `.bi` at its end. A missing file has the length 0. A path
-/// that leads to what is no regular file, as a directory, fails each read and write, and a sync of it does nothing.
+/// The file of before images has the same path with `.bi` at its end. A missing file has the length 0. A path of what
+/// is no regular file, as a directory or a link, fails each read and write, and a sync of it does nothing. So does an
+/// empty path, for both files. Where both paths lead to one file each call fails.
+///
+/// A sync fails where the file that was opened doesn't stand at its path any more.
 ///
 /// A file is locked by the first call that opens it, until the host is dropped. Where another program holds it, unless
 /// both may only read it, the call fails.
@@ -58,10 +61,12 @@ impl<'r, R: Files<File = File> + Print> FileHost<'r, R> {
         let db = String::from_str(alloc, path)?;
         let mut images = String::from_str(alloc, path)?;
         images.push_str(".bi")?;
+        let other_db = String::from_str(alloc, db.as_str())?;
+        let other_images = String::from_str(alloc, images.as_str())?;
         Ok(FileHost {
             rt,
-            db: Place::new(db),
-            images: Place::new(images),
+            db: Place::new(db, other_images),
+            images: Place::new(images, other_db),
             clock: 0,
             read_failures: 0,
             write_failures: 0,

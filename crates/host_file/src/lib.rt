@@ -6,9 +6,13 @@
 #![tactic(auto)]
 
 mod host;
+mod links;
+mod opened;
 mod place;
+mod reading;
 mod stdin;
 
 pub use host::FileHost;
-pub use place::read_full_at;
+pub use links::without_links;
+pub use reading::read_full_at;
 pub use stdin::StdinSource;

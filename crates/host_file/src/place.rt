@@ -1,9 +1,10 @@
 ghost use Rattle.std.specs.Prelude.{◌≡◌, ◌≤◌, length, IfOk};
 
+use crate::opened::{Opened, lock, lock_shared};
+use crate::reading::read_full_at;
 use std::fs::{File, OpenOptions};
 use std::io::{Error, ErrorKind};
 use std::os::unix::fs::FileExt;
-use std::path::Path;
 use std::rt::Files;
 use std::{fs, io};
 
@@ -11,26 +12,25 @@ use std::{fs, io};
 ///
 /// The lock is the system's advisory one on the whole file, and isn't waited for: exclusive where the file may be
 /// written, shared where it may only be read. So while another program holds the file so, no call opens it.
+///
+/// No call opens the file either where it is the other file of its host too, or where one of the two paths is empty.
 #[derive(Drop)]
 pub(crate) struct Place {
     path: String,
+    /// Where the other file of the host stands.
+    other_path: String,
     opened: Option<Opened>,
 }
 
-/// A file that is open and locked.
-#[derive(Drop)]
-struct Opened {
-    file: File,
-    is_writable: bool,
-    /// Whether the file's entry in its folder was made stable.
-    has_stable_entry: bool,
-}
-
 impl Place {
-    pub(crate) fn new(path: String) -> Place
+    pub(crate) fn new(path: String, other_path: String) -> Place
         ensures { result.path ≡ path }
     {
-        Place { path, opened: None }
+        Place {
+            path,
+            other_path,
+            opened: None,
+        }
     }
 
     /// The length of the file in bytes. A missing file has none.
@@ -39,7 +39,7 @@ impl Place {
     {
         self.open(files)?;
         match &self.opened {
-            Some(opened) => Ok(opened.file.metadata()?.len()),
+            Some(opened) => opened.len(),
             None => Ok(0),
         }
     }
@@ -84,8 +84,7 @@ impl Place {
     {
         self.open(files)?;
         match &self.opened {
-            Some(opened) if opened.is_writable => opened.file.set_len(len),
-            Some(_) => Err(Error::from(ErrorKind::PermissionDenied)),
+            Some(opened) => opened.cut(len),
             None if len == 0 => Ok(()),
             None => Err(Error::from(ErrorKind::NotFound)),
         }
@@ -94,6 +93,8 @@ impl Place {
     /// Has the system write what it keeps of the file to the device, and the first time also the folder's entry of
     /// the file, which may be new. A missing file has nothing to write, and nothing was written to what is no regular
     /// file.
+    ///
+    /// A file that doesn't stand at its path any more is not synced: who comes next wouldn't find what was written.
     pub(crate) fn sync<R: Files<File = File>>(&mut self, files: &R) -> io::Result<()>
         ensures { self.new.path ≡ self.old.path }
     {
@@ -101,15 +102,10 @@ impl Place {
             Err(e) if e.kind() == ErrorKind::InvalidInput => return Ok(()),
             tried => tried?,
         }
-        let Some(opened) = &mut self.opened else {
-            return Ok(());
-        };
-        opened.file.sync_all()?;
-        if !opened.has_stable_entry {
-            File::open(files, folder_of(self.path.as_str()))?.sync_all()?;
-            opened.has_stable_entry = true;
+        match &mut self.opened {
+            Some(opened) => opened.sync(files, self.path.as_str()),
+            None => Ok(()),
         }
-        Ok(())
     }
 
     /// Opens the file unless it is open. A missing file is looked for again at the next call.
@@ -117,7 +113,7 @@ impl Place {
         ensures { self.new.path ≡ self.old.path }
     {
         if self.opened.is_none() {
-            self.opened = open_existing(files, self.path.as_str())?;
+            self.opened = self.find(files)?;
         }
         Ok(())
     }
@@ -127,15 +123,31 @@ impl Place {
         ensures { self.new.path ≡ self.old.path }
     {
         if self.opened.is_none() {
-            self.opened = Some(lock(File::create_new(files, self.path.as_str())?)?);
+            let file = File::create_new(files, self.path.as_str())?;
+            self.opened = Some(lock(file, true)?);
         }
         Ok(())
     }
+
+    /// Opens and locks the file at the path, if there is one.
+    fn find<R: Files<File = File>>(&self, files: &R) -> io::Result<Option<Opened>> {
+        if self.path.is_empty() || self.other_path.is_empty() {
+            return Err(Error::from(ErrorKind::InvalidInput));
+        }
+        let Some(opened) = open_existing(files, self.path.as_str())? else {
+            return Ok(None);
+        };
+        if opened.is_what(fs::metadata(files, self.other_path.as_str()))? {
+            return Err(Error::from(ErrorKind::AlreadyExists));
+        }
+        Ok(Some(opened))
+    }
 }
 
-/// Opens and locks the file at a path, if there is one. What is no regular file, as a directory, is an error.
+/// Opens and locks the file at a path, if there is one. What is no regular file, as a directory or a link, is an
+/// error.
 fn open_existing<R: Files<File = File>>(files: &R, path: &str) -> io::Result<Option<Opened>> {
-    match fs::metadata(files, path) {
+    match fs::symlink_metadata(files, path) {
         Ok(metadata) if metadata.is_file() => Ok(Some(open_locked(files, path)?)),
         Ok(_) => Err(Error::from(ErrorKind::InvalidInput)),
         Err(e) if e.kind() == ErrorKind::NotFound => Ok(None),
@@ -148,7 +160,7 @@ fn open_locked<R: Files<File = File>>(files: &R, path: &str) -> io::Result<Opene
     let mut options = OpenOptions::new();
     options.read(true).write(true);
     match options.open(files, path) {
-        Ok(file) => lock(file),
+        Ok(file) => lock(file, false),
         Err(e) if is_refusal(e.kind()) => lock_shared(File::open(files, path)?),
         Err(e) => Err(e),
     }
@@ -157,51 +169,4 @@ fn open_locked<R: Files<File = File>>(files: &R, path: &str) -> io::Result<Opene
 /// Whether a file that can't be opened for writing may still be read.
 fn is_refusal(kind: ErrorKind) -> bool {
     kind == ErrorKind::PermissionDenied || kind == ErrorKind::ReadOnlyFilesystem
-}
-
-/// Takes the lock on a file that may be written.
-fn lock(file: File) -> io::Result<Opened> {
-    file.try_lock()?;
-    Ok(Opened {
-        file,
-        is_writable: true,
-        has_stable_entry: false,
-    })
-}
-
-/// Takes the lock on a file that may only be read.
-fn lock_shared(file: File) -> io::Result<Opened> {
-    file.try_lock_shared()?;
-    Ok(Opened {
-        file,
-        is_writable: false,
-        has_stable_entry: false,
-    })
-}
-
-/// The folder that the file at a path stands in.
-fn folder_of(path: &str) -> &str {
-    match Path::new(path).parent() {
-        Some(folder) if !folder.as_str().is_empty() => folder.as_str(),
-        _ => ".",
-    }
-}
-
-/// Reads from `at` on until `out` is full or a read gives nothing, and answers how many bytes came.
-pub fn read_full_at<F: FileExt>(file: &F, at: u64, out: &mut [u8]) -> io::Result<usize>
-    ensures { IfOk result (λ n. n ≤ length out.old) }
-{
-    // No file is as long as a signed place can't say, and the system takes no such place.
-    if i64::try_from(at).is_err() {
-        return Ok(0);
-    }
-    let mut done = 0;
-    while done < out.len() {
-        let count = file.read_at(&mut out[done..], at.saturating_add(done as u64))?;
-        if count == 0 {
-            break;
-        }
-        done += count;
-    }
-    Ok(done)
 }

@@ -5,7 +5,8 @@ ghost use Rattle.host_model.specs.Files.{Gives};
 ghost use Rattle.host_file.specs.System.{untold_left};
 
 use host_model::{Source, SourceFailed};
-use std::io::Read;
+use std::io;
+use std::io::{Error, ErrorKind, Read};
 use std::marker::{Model, PhantomData};
 
 /// A source over standard input, with one read a take.
@@ -51,7 +52,7 @@ impl<'r, R: Input> Source for StdinSource<'r, R> {
         ensures failed { OnErr result (Rose self.old self.new) }
         ensures counts { self.new ≡ (if is_ok result then self.old else counted self.old) }
     {
-        match self.reader.read(out) {
+        match read_uninterrupted(&mut self.reader, out) {
             Ok(count) => Ok(count),
             Err(_) => {
                 self.failures = self.failures.saturating_add(1);
@@ -59,4 +60,17 @@ impl<'r, R: Input> Source for StdinSource<'r, R> {
             }
         }
     }
+}
+
+/// One read, made again while signals interrupt it.
+fn read_uninterrupted<T: Read>(reader: &mut T, out: &mut [u8]) -> io::Result<usize>
+    ensures { IfOk result (λ n. n ≤ length out.old) }
+{
+    for _ in 0..u64::MAX {
+        match reader.read(out) {
+            Err(e) if e.kind() == ErrorKind::Interrupted => {}
+            answer => return answer,
+        }
+    }
+    Err(Error::from(ErrorKind::TimedOut))
 }

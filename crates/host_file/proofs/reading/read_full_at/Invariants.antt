@@ -1,5 +1,5 @@
 use Rattle.std.proofs.Common.{◌≤◌, ◌-◌, length}
-use Rattle.host_file.proofs.place.read_full_at.Given as goal
+use Rattle.host_file.proofs.reading.read_full_at.Given as goal
 
 abbrev pub invariant-loop-done : goal.invariant-loop-done
 invariant-loop-done g l = l.done ≤ length l.out
