@@ -34,23 +34,21 @@ def commands(lines):
     return "".join(line + "\n" for line in lines if not line.startswith(ANSWER))
 
 
-def is_stale(name, built):
-    """Whether the program isn't there, or some source of its crate is newer."""
+def is_stale(built):
+    """Whether the program isn't there, or some source is newer."""
     if not built.exists():
         return True
-    sources = (TOP / "crates" / name).rglob("*")
-    return any(
-        source.suffix in (".rt", ".antt") and "out" not in source.parts and source.stat().st_mtime > built.stat().st_mtime
-        for source in sources
-    )
+    sources = [TOP / "crates.txt", *(path for end in ("rt", "antt") for path in (TOP / "crates").rglob(f"*.{end}"))]
+    return any("out" not in path.parts and path.stat().st_mtime > built.stat().st_mtime for path in sources)
 
 
 def build(name):
     """Where the program lies, proved and built from the sources as they stand."""
     folder = TOP / "crates" / name
     built = folder / "out" / name
-    if is_stale(name, built):
-        subprocess.run(["rt", "run"], cwd=folder, stdin=subprocess.DEVNULL, stdout=subprocess.DEVNULL, check=False)
+    if is_stale(built):
+        subprocess.run(["rt", "run"], cwd=folder, stdin=subprocess.DEVNULL, stdout=subprocess.DEVNULL, check=True)
+        built.touch()
     return built
 
 
@@ -78,7 +76,7 @@ def wrong_with(suite):
     name, due = split(suite)
     try:
         ran = subprocess.run([build(name)], input=commands(due).encode(), capture_output=True, timeout=WITHIN, check=False)
-    except (OSError, subprocess.TimeoutExpired) as error:
+    except (OSError, subprocess.SubprocessError) as error:
         return f"{error}"
     told = differences(due, ran.stdout.decode("utf-8", "backslashreplace").removesuffix("\n").split("\n"))
     if ran.returncode != 0:
